@@ -1,6 +1,6 @@
 -- What the command did, by what its build did and what was put out.
 use Rattle.std.proofs.Common.{◌≡◌, ℕ, List, [], length, Option, Some, None, Result, Ok, Err, refl, sym, ap, ◌∙◌, subst, append-nil}
-use Rattle.std.specs.Prelude.{IfSome}
+use Rattle.std.specs.Prelude.{IfErr, IfSome}
 use Rattle.pw_io.specs.Files.{Files, Told}
 use Rattle.pw_io.specs.Streams.{Appends}
 use Rattle.pw_top_answer.specs.declared.answer.Answer.{Answer}
@@ -14,9 +14,10 @@ use Rattle.pw_build_files.specs.FromBuild.Unbuilt.{Unbuilt}
 use Rattle.pw_build_files.specs.FromBuild.Phases.{IsLine, refused_line}
 use Rattle.pw_build_opts.specs.declared.opts.Opts.{Opts}
 use Rattle.pw_build_files.specs.declared.report.Report.{Report}
-use Rattle.pw_build_files.specs.Building.{BuildOutcome, Outcome, puts_of}
+use Rattle.pw_build_files.specs.Building.{Outcome, puts_of}
+use Rattle.pw_build_files.specs.Seen.{IsSeenLine, SeenOutcome}
 use Rattle.pw_build_files.specs.Lines.{report_lines, report_text}
-use Rattle.pw_build_files.specs.Outcomes.{AnswersFault, AnswersOutcome, FaultFound, IsLineOfBuild, IsNoWant, ObeysBuild, Reports, fault_answer}
+use Rattle.pw_build_files.specs.Outcomes.{AnswersFault, AnswersOutcome, FaultFound, IsLineOfBuild, IsNoWant, IsOfStore, ObeysBuild, Reports, fault_answer}
 use Rattle.pw_commands.specs.Outcome.{IsFound, Obeys}
 use Rattle.pw_build_files.specs.Driving.{BuildEffect, IsBuildAnswer, built_effect, outcome_lines}
 
@@ -105,12 +106,15 @@ report_streams answer.WriteFault i i' o o' h = tt
 report_streams answer.NoMemory i i' o o' h = tt
 report_streams _ i i' o o' h = absurd h
 
-pub report_line : (due : Files → Option ℕ) (told : Option Told) (a : Answer) (line : Option ℕ) → IsPrintAnswer a → IfSome told (λ t. IsLineDue (due t.files) a line)
-report_line due None a line h = tt
-report_line due (Some t) answer.Done line h = tt
-report_line due (Some t) answer.WriteFault line h = tt
-report_line due (Some t) answer.NoMemory line h = tt
-report_line due (Some t) _ line h = absurd h
+report_due : (due : Option ℕ) (a : Answer) (line : Option ℕ) → IsPrintAnswer a → IsLineDue due a line
+report_due due answer.Done line h = tt
+report_due due answer.WriteFault line h = tt
+report_due due answer.NoMemory line h = tt
+report_due due _ line h = absurd h
+
+pub report_line : (told : Option Told) (a : Answer) (line : Option ℕ) → IsPrintAnswer a → IfSome told (λ t. IsSeenLine t.files a line)
+report_line None a line h = tt
+report_line (Some t) a line h = λ shown is. report_due (refused_line (modules_of shown)) a line h
 
 -- ---- a build that was not done
 
@@ -197,9 +201,9 @@ line_due due build.StoreFault line h = tt
 line_due due build.NoMemory line h = tt
 
 pub fault_line : (told : Option Told) (unbuilt : Unbuilt) (a : Answer) (line : Option ℕ) → a ≡ fault_answer unbuilt.fault → line ≡ unbuilt.line → IfSome told (λ t. IsLineOfBuild t.files (Err unbuilt))
-    → IfSome told (λ t. IsLineDue (refused_line (modules_of t.files)) a line)
+    → IfSome told (λ t. IsSeenLine t.files a line)
 fault_line None unbuilt a line e f h = tt
-fault_line (Some t) unbuilt a line e f h = rw (e, f) (line_due (refused_line (modules_of t.files)) unbuilt.fault unbuilt.line h)
+fault_line (Some t) unbuilt a line e f h = λ shown is. rw (e, f) (line_due (refused_line (modules_of shown)) unbuilt.fault unbuilt.line (h shown is))
 
 -- ---- refusals, whatever the input tells
 
@@ -210,7 +214,7 @@ print_no_refusal answer.NoMemory h = tt
 print_no_refusal _ h = absurd h
 
 pub report_refusal : (told new : Option Told) (opts : Opts) (report : Report) (a : Answer) → IsPrintAnswer a → IfSome told (λ t. ObeysBuild opts (Ok report) t new)
-    → IfSome told (λ t. (comes : Result Outcome BuildFault) → BuildOutcome t.files opts comes → AnswersOutcome comes a)
+    → IfSome told (λ t. (comes : Result Outcome BuildFault) → SeenOutcome t.files opts comes → AnswersOutcome comes a)
 report_refusal None new opts report a ok h = tt
 report_refusal (Some t) new opts report a ok h = λ comes b. subst (λ (x : Result Outcome BuildFault). AnswersOutcome x a) (sym (h.answers comes b).1) (print_no_refusal a ok)
 
@@ -229,6 +233,19 @@ refused_outcome build.StoreFault comes is = in_store comes
 refused_outcome build.NoMemory comes is = in_memory comes
 
 pub fault_refusal : (told new : Option Told) (opts : Opts) (unbuilt : Unbuilt) (a : Answer) → a ≡ fault_answer unbuilt.fault → IfSome told (λ t. ObeysBuild opts (Err unbuilt) t new)
-    → IfSome told (λ t. (comes : Result Outcome BuildFault) → BuildOutcome t.files opts comes → AnswersOutcome comes a)
+    → IfSome told (λ t. (comes : Result Outcome BuildFault) → SeenOutcome t.files opts comes → AnswersOutcome comes a)
 fault_refusal None new opts unbuilt a e h = tt
 fault_refusal (Some t) new opts unbuilt a e h = λ comes b. subst (AnswersOutcome comes) (sym e) (refused_outcome unbuilt.fault comes (h.answers comes b))
+
+-- ---- the line where the store failed or memory ran out while files were put
+
+putting_line : (due : Option ℕ) (fault : BuildFault) (line : Option ℕ) → IsOfStore fault → IsLine due fault line
+putting_line due build.StoreFault line h = tt
+putting_line due build.NoMemory line h = tt
+putting_line due (build.Refused name refusal) line h = absurd h
+putting_line due (build.LinkRefused fault) line h = absurd h
+
+pub line_putting : (result : Result Report Unbuilt) (first : Option Told) → IfErr result (λ unbuilt. IsOfStore unbuilt.fault) → IfSome first (λ t. IsLineOfBuild t.files result)
+line_putting result None h = tt
+line_putting (Ok report) (Some t) h = tt
+line_putting (Err unbuilt) (Some t) h = λ shown is. putting_line (refused_line (modules_of shown)) unbuilt.fault unbuilt.line h

@@ -28,10 +28,13 @@ use Rattle.pw_store_kept.specs.declared.prepared.Prepared.{Prepared}
 use Rattle.pw_store_kept.specs.Kept.{is_same, kept_object}
 use Rattle.pw_store_kept.specs.Files.{AreObjectFiles, HoldBytes, IsCompared, file_view, made_anew, one_if}
 use Rattle.pw_build_files.specs.Building.{BuildOutcome, if_changed, kept_objects}
-use Rattle.pw_build_files.specs.Programs.{BuildsFiles, FaultBuilds, AnswersFault}
+use Rattle.pw_build_files.specs.Programs.{BuildsFiles, FaultBuilds}
+use Rattle.pw_build_files.specs.Seen.{SeesFault}
+use Rattle.pw_store_texts.specs.Seen.{IsSeen}
+use Rattle.pw_build_files.proofs.SeenLemmas.{Beside, compared_shown, kept_shown}
 use Rattle.pw_build_files.proofs.ProgramLemmas.{names_by, no_line, stored}
 use Rattle.pw_build_objects.specs.Counting.{CountsUpTo}
-use Rattle.pw_build_files.specs.Outcomes.{CountsAtMost, FaultFound, IsNoWant, IsOfStore, outcome_of}
+use Rattle.pw_build_files.specs.Outcomes.{CountsAtMost, CountsSeen, FaultBuilt, FaultFound, IsNoWant, IsOfStore, outcome_of}
 
 -- ---- the names of modules
 
@@ -83,68 +86,59 @@ comes_told files opts ms made p objects count sources builds fits few cmp =
       },
     )
 
-pub comes_prepared : (opts : Opts) (first now : Option Told) (ms : List Module) (made : ProgramFiles) (p : Prepared) (objects : List Object) (count : ℕ) → IfSome first (λ told. BuildsFiles (map source ms) (map (λ m. kept_object told.files m.name) ms) opts made objects) → HoldBytes (map file_view made.fresh.files.items) → Keeps first now → count ≡ length ms
-    → IfSome now (λ told. IsCompared told.files count made p) → IfSome first (λ told. map source ms ≡ modules_of told.files → BuildOutcome told.files opts (Ok (outcome_of p objects)))
-comes_prepared opts None now ms made p objects count builds fits same few cmp = tt
-comes_prepared opts (Some told) now ms made p objects count builds fits same few cmp = λ sources.
+pub comes_prepared : Beside → (opts : Opts) (first now : Option Told) (ms : List Module) (made : ProgramFiles) (p : Prepared) (objects : List Object) (count : ℕ) → IfSome first (λ told. BuildsFiles (map source ms) (map (λ m. kept_object told.files m.name) ms) opts made objects) → HoldBytes (map file_view made.fresh.files.items) → Keeps first now → count ≡ length ms
+    → IfSome now (λ told. IsCompared told.files count made p) → IfSome first (λ told. (shown : Files) → IsSeen told.files shown → map source ms ≡ modules_of shown → BuildOutcome shown opts (Ok (outcome_of p objects)))
+comes_prepared beside opts None now ms made p objects count builds fits same few cmp = tt
+comes_prepared beside opts (Some told) now ms made p objects count builds fits same few cmp = λ shown is sources.
     let Q : Option Told → Type 0 = λ o. IfSome o (λ t. IsCompared t.files count made p) in
-    comes_told told.files opts ms made p objects count sources builds fits few (subst Q same cmp)
-
--- what was prepared of the modules of a store is so of the store
-pub on_modules : (P X : Told → Type 0) (first now : Option Told) → IfSome first P → Keeps first now → IfSome now (λ told. P told → X told) → IfSome first X
-on_modules P X None now is same h = tt
-on_modules P X (Some told) now is same h = subst (λ (o : Option Told). IfSome o (λ t. P t → X t)) same h is
+    let R : List (Option Object) → Type 0 = λ ks. BuildsFiles (map source ms) ks opts made objects in
+    comes_told shown opts ms made p objects count sources (subst R (kept_shown beside told.files shown is ms) builds) fits few (compared_shown beside told.files shown is count made p (subst Q same cmp))
 
 -- ---- faults
 
-early_told : (files : Files) (opts : Opts) (fault : BuildFault) → AnswersFault (first_phases (modules_of files)) fault → FaultFound files opts fault
+early_told : (files : Files) (opts : Opts) (fault : BuildFault) → SeesFault files fault → FaultFound files opts fault
 early_told files opts build.StoreFault h = tt
 early_told files opts build.NoMemory h = tt
-early_told files opts (build.Refused name refusal) h = subst (λ (r : Result (List FlowModule) BuildFault). BuildsBy r (kept_objects files) opts (Err (build.Refused name refusal))) (sym h) refl
-early_told files opts (build.LinkRefused fault) h = subst (λ (r : Result (List FlowModule) BuildFault). BuildsBy r (kept_objects files) opts (Err (build.LinkRefused fault))) (sym h) refl
+early_told files opts (build.Refused name refusal) h = (h.0, h.1, subst (λ (r : Result (List FlowModule) BuildFault). BuildsBy r (kept_objects h.0) opts (Err (build.Refused name refusal))) (sym h.2) refl)
+early_told files opts (build.LinkRefused fault) h = (h.0, h.1, subst (λ (r : Result (List FlowModule) BuildFault). BuildsBy r (kept_objects h.0) opts (Err (build.LinkRefused fault))) (sym h.2) refl)
 
-pub found_early : (opts : Opts) (first : Option Told) (fault : BuildFault) → IfSome first (λ told. AnswersFault (first_phases (modules_of told.files)) fault) → IfSome first (λ told. FaultFound told.files opts fault)
+pub found_early : (opts : Opts) (first : Option Told) (fault : BuildFault) → IfSome first (λ told. SeesFault told.files fault) → IfSome first (λ told. FaultFound told.files opts fault)
 found_early opts None fault h = tt
 found_early opts (Some told) fault h = early_told told.files opts fault h
 
-late_told : (files : Files) (opts : Opts) (ms : List Module) (fault : BuildFault) → map source ms ≡ modules_of files → FaultBuilds (map source ms) (map (λ m. kept_object files m.name) ms) opts fault → FaultFound files opts fault
-late_told files opts ms fault sources h =
-    by_fault fault (subst (λ (s : List Source). FaultBuilds s (kept_objects files) opts fault) sources (subst (λ (k : List (Option Object)). FaultBuilds (map source ms) k opts fault) (kept_are ms files sources) h))
+late_told : (shown : Files) (opts : Opts) (ms : List Module) (fault : BuildFault) → map source ms ≡ modules_of shown → FaultBuilds (map source ms) (map (λ m. kept_object shown m.name) ms) opts fault → FaultBuilt shown opts fault
+late_told shown opts ms fault sources h =
+    by_fault fault (subst (λ (s : List Source). FaultBuilds s (kept_objects shown) opts fault) sources (subst (λ (k : List (Option Object)). FaultBuilds (map source ms) k opts fault) (kept_are ms shown sources) h))
   where
-    by_fault : (f : BuildFault) → FaultBuilds (modules_of files) (kept_objects files) opts f → FaultFound files opts f
+    by_fault : (f : BuildFault) → FaultBuilds (modules_of shown) (kept_objects shown) opts f → FaultBuilt shown opts f
     by_fault build.StoreFault h = tt
     by_fault build.NoMemory h = tt
     by_fault (build.Refused name refusal) h = h
     by_fault (build.LinkRefused fault) h = h
 
-pub found_late : (opts : Opts) (first : Option Told) (ms : List Module) (fault : BuildFault)
-    → IfSome first (λ told. FaultBuilds (map source ms) (map (λ m. kept_object told.files m.name) ms) opts fault) → IfSome first (λ told. map source ms ≡ modules_of told.files → FaultFound told.files opts fault)
-found_late opts None ms fault h = tt
-found_late opts (Some told) ms fault h = λ sources. late_told told.files opts ms fault sources h
+pub found_late : Beside → (opts : Opts) (first : Option Told) (ms : List Module) (fault : BuildFault)
+    → IfSome first (λ told. FaultBuilds (map source ms) (map (λ m. kept_object told.files m.name) ms) opts fault) → IfSome first (λ told. (shown : Files) → IsSeen told.files shown → map source ms ≡ modules_of shown → FaultBuilt shown opts fault)
+found_late beside opts None ms fault h = tt
+found_late beside opts (Some told) ms fault h = λ shown is sources.
+    let R : List (Option Object) → Type 0 = λ ks. FaultBuilds (map source ms) ks opts fault in
+    late_told shown opts ms fault sources (subst R (kept_shown beside told.files shown is ms) h)
 
--- the line of a refused module of the store
-pub line_late : (first : Option Told) (ms : List Module) (unbuilt : Unbuilt) → IsLine (refused_line (map source ms)) unbuilt.fault unbuilt.line
-    → IfSome first (λ told. map source ms ≡ modules_of told.files → IsLine (refused_line (modules_of told.files)) unbuilt.fault unbuilt.line)
-line_late None ms unbuilt h = tt
-line_late (Some told) ms unbuilt h = λ sources. subst (λ (s : List Source). IsLine (refused_line s) unbuilt.fault unbuilt.line) sources h
-
-pub line_early : (first : Option Told) (unbuilt : Unbuilt) → ((due : Option ℕ) → IsLine due unbuilt.fault unbuilt.line) → IfSome first (λ told. IsLine (refused_line (modules_of told.files)) unbuilt.fault unbuilt.line)
+pub line_early : (first : Option Told) (unbuilt : Unbuilt) → ((due : Option ℕ) → IsLine due unbuilt.fault unbuilt.line) → IfSome first (λ told. (shown : Files) → IsSeen told.files shown → IsLine (refused_line (modules_of shown)) unbuilt.fault unbuilt.line)
 line_early None unbuilt h = tt
-line_early (Some told) unbuilt h = h (refused_line (modules_of told.files))
+line_early (Some told) unbuilt h = λ shown is. h (refused_line (modules_of shown))
 
 -- a fault of the store, or want of memory, in place of whatever was wanted
-found_nothing : (opts : Opts) (first : Option Told) (fault : BuildFault) → (fault ≡ build.StoreFault) ⊎ (fault ≡ build.NoMemory) → IfSome first (λ told. FaultFound told.files opts fault)
-found_nothing opts None fault h = tt
-found_nothing opts (Some told) fault (inl e) = subst (λ (f : BuildFault). FaultFound told.files opts f) (sym e) tt
-found_nothing opts (Some told) fault (inr e) = subst (λ (f : BuildFault). FaultFound told.files opts f) (sym e) tt
+nothing_built : (shown : Files) (opts : Opts) (fault : BuildFault) → (fault ≡ build.StoreFault) ⊎ (fault ≡ build.NoMemory) → FaultBuilt shown opts fault
+nothing_built shown opts fault (inl e) = subst (λ (f : BuildFault). FaultBuilt shown opts f) (sym e) tt
+nothing_built shown opts fault (inr e) = subst (λ (f : BuildFault). FaultBuilt shown opts f) (sym e) tt
 
-pub found_none : (opts : Opts) (first : Option Told) (ms : List Module) (error : StoreError) (fault : BuildFault) → fault ≡ store_fault error → IfSome first (λ told. map source ms ≡ modules_of told.files → FaultFound told.files opts fault)
+pub found_none : (opts : Opts) (first : Option Told) (ms : List Module) (error : StoreError) (fault : BuildFault) → fault ≡ store_fault error
+    → IfSome first (λ told. (shown : Files) → IsSeen told.files shown → map source ms ≡ modules_of shown → FaultBuilt shown opts fault)
 found_none opts None ms error fault e = tt
-found_none opts (Some told) ms error fault e = λ sources. found_nothing opts (Some told) fault (stored error fault e)
+found_none opts (Some told) ms error fault e = λ shown is sources. nothing_built shown opts fault (stored error fault e)
 
-pub line_none : (first : Option Told) (ms : List Module) (error : StoreError) (fault : BuildFault) (line : Option ℕ) → fault ≡ store_fault error → IfSome first (λ told. map source ms ≡ modules_of told.files → IsLine (refused_line (modules_of told.files)) fault line)
-line_none None ms error fault line e = tt
-line_none (Some told) ms error fault line e = λ sources. no_line (refused_line (modules_of told.files)) fault line (stored error fault e)
+pub line_none : (due : Option ℕ) (error : StoreError) (fault : BuildFault) (line : Option ℕ) → fault ≡ store_fault error → IsLine due fault line
+line_none due error fault line e = no_line due fault line (stored error fault e)
 
 -- ---- a refusal is none for want of memory
 
@@ -164,17 +158,13 @@ of_store_no_want (Err unbuilt) h = by_fault unbuilt.fault h
 
 -- ---- at most how many are counted
 
-pub counted_told : (first : Option Told) (sources : List Source) (before now : ℕ) → IfSome first (λ told. sources ≡ modules_of told.files) → CountsAtMost (first_phases sources) before now → IfSome first (λ told. CountsAtMost (first_phases (modules_of told.files)) before now)
-counted_told None sources before now e h = tt
-counted_told (Some told) sources before now e h = subst (λ (s : List Source). CountsAtMost (first_phases s) before now) e h
-
 nothing_counted : (phases : Result (List FlowModule) BuildFault) (n : ℕ) → CountsAtMost phases n n
 nothing_counted (Err fault) n = refl
 nothing_counted (Ok flows) n = record { least = omega arith; bound = omega arith }
 
-pub none_counted : (first : Option Told) (n : ℕ) → IfSome first (λ told. CountsAtMost (first_phases (modules_of told.files)) n n)
+pub none_counted : (first : Option Told) (n : ℕ) → IfSome first (λ told. CountsSeen told.files n n)
 none_counted None n = tt
-none_counted (Some told) n = nothing_counted (first_phases (modules_of told.files)) n
+none_counted (Some told) n = λ shown is. nothing_counted (first_phases (modules_of shown)) n
 
 pub none_more : (most n : ℕ) → CountsUpTo most n n
 none_more most n = record { least = omega arith; bound = omega arith }

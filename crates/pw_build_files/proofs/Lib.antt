@@ -8,7 +8,7 @@ pub mod FileLemmas
 pub mod GenuineFiles
 pub mod GenuineLemmas
 pub mod FullLaws
-pub mod TextLaws
+pub mod SeenLemmas
 pub mod LeavingLemmas
 pub mod NameLemmas
 pub mod BuildCounts

@@ -13,7 +13,8 @@ use Rattle.pw_build_files.specs.FromBuild.Unbuilt.{Unbuilt}
 use Rattle.pw_build_files.specs.FromBuild.Stores.{store_fault}
 use Rattle.pw_build_files.specs.declared.report.Report.{Report}
 use Rattle.pw_build_opts.specs.declared.opts.Opts.{Opts}
-use Rattle.pw_build_files.specs.Building.{BuildOutcome, Outcome, puts_of}
+use Rattle.pw_build_files.specs.Building.{Outcome, puts_of}
+use Rattle.pw_build_files.specs.Seen.{SeenOutcome}
 use Rattle.pw_build_files.specs.Genuine.{IsBuiltName, IsOwnFile}
 use Rattle.pw_build_objects.specs.Programs.{WasMade}
 use Rattle.pw_build_files.specs.Outcomes.{AreBuilt, FaultFound, HoldsImage, ObeysBuild, IsOfStore, PutsSome, Reports, build_answer, fault_answer}
@@ -22,11 +23,11 @@ use Rattle.pw_store_kept.proofs.PutLemmas.{none_left}
 use Rattle.pw_db.specs.Limits.{colour_limit}
 
 abbrev pub OneBuild : Type 0
-OneBuild = (files : Files) (opts : Opts) (a b : Result Outcome BuildFault) → opts.colours ≤ colour_limit → BuildOutcome files opts a → BuildOutcome files opts b → a ≡ b
+OneBuild = (files : Files) (opts : Opts) (a b : Result Outcome BuildFault) → opts.colours ≤ colour_limit → SeenOutcome files opts a → SeenOutcome files opts b → a ≡ b
 
 -- ---- all was put
 
-obeys_all_told : OneBuild → (opts : Opts) → opts.colours ≤ colour_limit → (outcome : Outcome) (report : Report) (told : Told) (new : Option Told) → BuildOutcome told.files opts (Ok outcome) → Reports outcome report → new ≡ Some (after_puts told outcome.puts) → ObeysBuild opts (Ok report) told new
+obeys_all_told : OneBuild → (opts : Opts) → opts.colours ≤ colour_limit → (outcome : Outcome) (report : Report) (told : Told) (new : Option Told) → SeenOutcome told.files opts (Ok outcome) → Reports outcome report → new ≡ Some (after_puts told outcome.puts) → ObeysBuild opts (Ok report) told new
 obeys_all_told one opts few outcome report told new comes reports puts = record {
   answers = λ c h. (outcome, one told.files opts c (Ok outcome) few h comes, reports);
   puts = λ c h. puts ∙ ap (λ (x : Result Outcome BuildFault). Some (after_puts told (puts_of x))) (sym (one told.files opts c (Ok outcome) few h comes));
@@ -45,7 +46,7 @@ reported_objects outcome (Err unbuilt) reports h = tt
 
 -- ---- the store failed or memory ran out while files were put
 
-stopped_told : OneBuild → (opts : Opts) → opts.colours ≤ colour_limit → (outcome : Outcome) (fault : BuildFault) (line : Option ℕ) (told : Told) (new : Option Told) → BuildOutcome told.files opts (Ok outcome) → IsOfStore fault → PutsFiles outcome.puts (fault_answer fault) told new →
+stopped_told : OneBuild → (opts : Opts) → opts.colours ≤ colour_limit → (outcome : Outcome) (fault : BuildFault) (line : Option ℕ) (told : Told) (new : Option Told) → SeenOutcome told.files opts (Ok outcome) → IsOfStore fault → PutsFiles outcome.puts (fault_answer fault) told new →
     ObeysBuild opts (Err (record { fault = fault; line = line })) told new
 stopped_told one opts few outcome build.StoreFault line told new comes of puts = record {
   answers = λ c h. tt;
@@ -62,12 +63,12 @@ stopped_told one opts few outcome (build.LinkRefused fault) line told new comes 
 
 -- ---- whatever came of the puts
 
-by_result : OneBuild → (opts : Opts) → opts.colours ≤ colour_limit → (outcome : Outcome) (result : Result Report Unbuilt) (told : Told) (new : Option Told) → BuildOutcome told.files opts (Ok outcome) → IfOk result (λ report. Reports outcome report) → IfErr result (λ unbuilt. IsOfStore unbuilt.fault)
+by_result : OneBuild → (opts : Opts) → opts.colours ≤ colour_limit → (outcome : Outcome) (result : Result Report Unbuilt) (told : Told) (new : Option Told) → SeenOutcome told.files opts (Ok outcome) → IfOk result (λ report. Reports outcome report) → IfErr result (λ unbuilt. IsOfStore unbuilt.fault)
     → PutsFiles outcome.puts (build_answer result) told new → ObeysBuild opts result told new
 by_result one opts few outcome (Ok report) told new comes reports of puts = obeys_all_told one opts few outcome report told new comes reports puts
 by_result one opts few outcome (Err unbuilt) told new comes reports of puts = stopped_told one opts few outcome unbuilt.fault unbuilt.line told new comes of puts
 
-pub obeys_put : OneBuild → (opts : Opts) → opts.colours ≤ colour_limit → (outcome : Outcome) (result : Result Report Unbuilt) (first now new : Option Told) → IfSome first (λ told. BuildOutcome told.files opts (Ok outcome)) → Keeps first now → IfOk result (λ report. Reports outcome report)
+pub obeys_put : OneBuild → (opts : Opts) → opts.colours ≤ colour_limit → (outcome : Outcome) (result : Result Report Unbuilt) (first now new : Option Told) → IfSome first (λ told. SeenOutcome told.files opts (Ok outcome)) → Keeps first now → IfOk result (λ report. Reports outcome report)
     → IfErr result (λ unbuilt. IsOfStore unbuilt.fault) → IfSome now (λ told. PutsFiles outcome.puts (build_answer result) told new) → IfSome first (λ told. ObeysBuild opts result told new)
 obeys_put one opts few outcome result None now new comes same reports of puts = tt
 obeys_put one opts few outcome result (Some told) now new comes same reports of puts =

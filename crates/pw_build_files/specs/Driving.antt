@@ -9,7 +9,8 @@ use Rattle.pw_top_answer.specs.declared.answer.Answer.{Answer}
 use Rattle.pw_top_answer.specs.declared.answer.Answer.TheVariants.{Done, Refused, LinkRefused, WriteFault, StoreFault, NoMemory}
 use Rattle.pw_top_answer.specs.Effects.{Effect, answers_alone}
 use Rattle.pw_build_files.specs.FromBuild.BuildFault.{BuildFault}
-use Rattle.pw_build_files.specs.Building.{BuildOutcome, Outcome}
+use Rattle.pw_build_files.specs.Building.{Outcome}
+use Rattle.pw_build_files.specs.Seen.{SeenOutcome}
 use Rattle.pw_build_files.specs.Genuine.{IsBuiltName}
 use Rattle.pw_build_files.specs.Lines.{report_lines}
 use Rattle.pw_build_files.specs.Outcomes.{fault_answer}
@@ -30,7 +31,7 @@ built_effect (Err fault) input = answers_alone (fault_answer fault) input
 -- `build` over a store's files, for so many registers and such a stack
 abbrev pub BuildEffect : Files → Opts → List ℕ → Effect → Type 0
 BuildEffect files opts input effect =
-    (comes : Result Outcome BuildFault) × BuildOutcome files opts comes × (effect ≡ built_effect comes input)
+    (comes : Result Outcome BuildFault) × SeenOutcome files opts comes × (effect ≡ built_effect comes input)
 
 -- the answers of the command, whose refusals are none for want of memory
 abbrev pub IsBuildAnswer : Answer → Type 0

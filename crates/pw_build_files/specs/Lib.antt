@@ -3,6 +3,7 @@ pub mod Programs
 pub mod Building
 pub mod Full
 pub mod Genuine
+pub mod Seen
 pub mod Lines
 pub mod Outcomes
 pub mod Driving

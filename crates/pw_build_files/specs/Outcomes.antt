@@ -10,6 +10,7 @@ use Rattle.pw_top_answer.specs.declared.answer.Answer.TheVariants as answer
 use Rattle.pw_top_answer.specs.Effects.{NamedFile, PutPart, PutsFiles, after_puts}
 use Rattle.pw_top_answer.specs.Outcomes.{IsNoRefusal, RefusesAs}
 use Rattle.pw_store_modules.specs.Modules.{modules_of}
+use Rattle.pw_store_texts.specs.Seen.{IsSeen}
 use Rattle.pw_build_files.specs.FromBuild.BuildFault.{BuildFault}
 use Rattle.pw_build_files.specs.FromBuild.BuildFault.TheVariants as build
 use Rattle.pw_build_files.specs.FromBuild.Unbuilt.{Unbuilt}
@@ -20,7 +21,9 @@ use Rattle.pw_store_kept.specs.declared.prepared.Prepared.{Prepared}
 use Rattle.pw_store_kept.specs.Files.{changed_files}
 pub use Rattle.pw_build_files.specs.Programs.{CountsAtMost, AnswersFault, FaultCount, HoldsImage, IsNoWant, fault_answer}
 use Rattle.pw_build_files.specs.Programs.{IsCounted}
+use Rattle.pw_build_files.specs.FromBuild.Builds.{first_phases}
 use Rattle.pw_build_files.specs.Building.{BuildOutcome, Outcome, kept_objects, puts_of}
+use Rattle.pw_build_files.specs.Seen.{SeenOutcome}
 use Rattle.pw_db.specs.Limits.{colour_limit}
 use Rattle.pw_build_files.specs.Genuine.{IsBuiltName}
 
@@ -57,20 +60,20 @@ AnswersOutcome (Err fault) reply = RefusesAs (fault_answer fault) reply
 abbrev pub FaultFound : Files → Opts → BuildFault → Type 0
 FaultFound files opts build.StoreFault = Unit {0}
 FaultFound files opts build.NoMemory = Unit {0}
-FaultFound files opts fault = BuildOutcome files opts (Err fault)
+FaultFound files opts fault = SeenOutcome files opts (Err fault)
 
 -- what is counted where this fault is answered
 abbrev pub CountsFound : Files → Opts → BuildFault → ℕ → ℕ → Type 0
-CountsFound files opts fault before now = IsCounted (modules_of files) (kept_objects files) opts fault before now
+CountsFound files opts fault before now = (shown : Files) → IsSeen files shown → IsCounted (modules_of shown) (kept_objects shown) opts fault before now
 
 abbrev pub IsBuildFound : Files → Opts → Result Report Unbuilt → Type 0
-IsBuildFound files opts (Ok report) = (outcome : Outcome) × BuildOutcome files opts (Ok outcome) × Reports outcome report
+IsBuildFound files opts (Ok report) = (outcome : Outcome) × SeenOutcome files opts (Ok outcome) × Reports outcome report
 IsBuildFound files opts (Err unbuilt) = FaultFound files opts unbuilt.fault
 
 -- What a build comes to is what was answered and put; a fault of the store and want of memory may come in its place.
 pub record ObeysBuild (opts : Opts) (result : Result Report Unbuilt) (told : Told) (new : Option Told) : Type 0 where
-  pub answers : (comes : Result Outcome BuildFault) → BuildOutcome told.files opts comes → AnswersBuild comes result
-  pub puts : (comes : Result Outcome BuildFault) → BuildOutcome told.files opts comes → PutsFiles (puts_of comes) (build_answer result) told new
+  pub answers : (comes : Result Outcome BuildFault) → SeenOutcome told.files opts comes → AnswersBuild comes result
+  pub puts : (comes : Result Outcome BuildFault) → SeenOutcome told.files opts comes → PutsFiles (puts_of comes) (build_answer result) told new
   pub found : IsBuildFound told.files opts result
 
 -- the files have names of a build's
@@ -88,9 +91,22 @@ PutsSome _ told new = (files : List NamedFile) × AreBuilt files × (new ≡ Som
 -- the line of a refused module, where one is refused
 abbrev pub IsLineOfBuild : Files → Result Report Unbuilt → Type 0
 IsLineOfBuild files (Ok report) = Unit {0}
-IsLineOfBuild files (Err unbuilt) = IsLine (refused_line (modules_of files)) unbuilt.fault unbuilt.line
+IsLineOfBuild files (Err unbuilt) = (shown : Files) → IsSeen files shown → IsLine (refused_line (modules_of shown)) unbuilt.fault unbuilt.line
+
+-- what is counted, whatever is answered
+abbrev pub CountsSeen : Files → ℕ → ℕ → Type 0
+CountsSeen files before now = (shown : Files) → IsSeen files shown → CountsAtMost (first_phases (modules_of shown)) before now
 
 -- ---- inside the build
+
+-- the same as far as the build is one of these files
+abbrev pub FaultBuilt : Files → Opts → BuildFault → Type 0
+FaultBuilt shown opts build.StoreFault = Unit {0}
+FaultBuilt shown opts build.NoMemory = Unit {0}
+FaultBuilt shown opts fault = BuildOutcome shown opts (Err fault)
+
+abbrev pub CountsBuilt : Files → Opts → BuildFault → ℕ → ℕ → Type 0
+CountsBuilt shown opts fault before now = IsCounted (modules_of shown) (kept_objects shown) opts fault before now
 
 -- a fault of the store, or want of memory
 abbrev pub IsOfStore : BuildFault → Type 0

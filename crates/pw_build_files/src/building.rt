@@ -2,17 +2,15 @@
 
 ghost use Rattle.std.specs.Prelude.{◌≡◌, ◌+◌, Err, IfErr, IfOk, IfSome, length};
 ghost use Rattle.pw_value.specs.Limits.{module_limit};
-ghost use Rattle.pw_store_modules.specs.Modules.{modules_of};
 ghost use Rattle.pw_top_answer.specs.Effects.{PutsFiles};
 ghost use Rattle.pw_build_objects.specs.Counting.{CountsUpTo};
 ghost use Rattle.pw_build_objects.specs.Programs.{WasMade};
 ghost use Rattle.std.specs.List.{AllByRecursion};
-ghost use Rattle.pw_build_files.specs.FromBuild.Builds.{first_phases};
 ghost use Rattle.pw_store_kept.specs.Files.{changed_files};
 ghost use Rattle.pw_build_files.specs.Genuine.{KeepsGenuine, LeavesOthers};
-ghost use Rattle.pw_build_files.specs.Outcomes.{AreOpts, CountsAtMost, CountsFound, FaultCount, HoldsImage, IsLineOfBuild, IsNoWant, IsOfStore, ObeysBuild, PutsSome, Reports, build_answer, outcome_of};
+ghost use Rattle.pw_build_files.specs.Outcomes.{AreOpts, CountsFound, CountsSeen, FaultCount, HoldsImage, IsLineOfBuild, IsNoWant, IsOfStore, ObeysBuild, PutsSome, Reports, build_answer, outcome_of};
 
-use crate::laws::a_store_has_one_build;
+use crate::laws::a_store_is_built_in_one_way;
 use crate::prepared::{Ready, prepare};
 use crate::report::Report;
 use pw_build::Unbuilt;
@@ -59,7 +57,8 @@ fn finished<S: Store>(alloc: Global, store: &mut S, made: Ready) -> Result<Repor
 
 /// Builds the program of the modules of a store, and puts what changed.
 ///
-/// The modules are the files `NAME.i`, in the byte order of their names. What was kept of a module in `NAME.obj` stays
+/// The modules are the files `NAME.c` and `NAME.i`, in the byte order of their names; of the first the output of the preprocessor is
+/// compiled, and a `NAME.i` beside it is ignored. What was kept of a module in `NAME.obj` stays
 /// where it was made of the same flow graph under the same directives; each other object is made anew and put, then
 /// `prog.db` and `prog.img`, each where its bytes differ from those that the store keeps. `steps` counts the objects that
 /// are made anew, also where they are refused then.
@@ -86,11 +85,11 @@ pub fn build<S: Store, L: Ledger>(
     ensures proper { IfErr result (λ unbuilt. IsNoWant unbuilt.fault) }
     ensures counted { IfOk result (λ report. steps.new ≡ steps.old + length report.rebuilt.items) }
     ensures counted_fault { IfSome (S.told store.old) (λ told. IfErr result (λ unbuilt. CountsFound told.files opts.now unbuilt.fault steps.old steps.new)) }
-    ensures bound { IfSome (S.told store.old) (λ told. CountsAtMost (first_phases (modules_of told.files)) steps.old steps.new) }
+    ensures bound { IfSome (S.told store.old) (λ told. CountsSeen told.files steps.old steps.new) }
     ensures most { CountsUpTo module_limit steps.old steps.new }
     ensures count { FaultCount (S.faults store.old) (S.faults store.new) result }
 {
-    a_store_has_one_build();
+    a_store_is_built_in_one_way();
     other_files();
     match prepare(alloc, store, opts, steps) {
         Ok(made) => finished(alloc, store, made),

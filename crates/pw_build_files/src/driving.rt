@@ -2,13 +2,12 @@
 
 ghost use Rattle.std.specs.Prelude.{◌≡◌, ◌<◌, ℕ, List, Option, Result, IfErr, IfOk, IfSome};
 ghost use Rattle.std.specs.List.{AllByRecursion};
-ghost use Rattle.pw_store_modules.specs.Modules.{modules_of};
 ghost use Rattle.pw_top_answer.specs.Effects.{Effect};
-ghost use Rattle.pw_top_answer.specs.Outcomes.{IsLineDue, IsPrintAnswer, LeavesStreams, OutputCount, PutsOut, StoreCount};
+ghost use Rattle.pw_top_answer.specs.Outcomes.{IsPrintAnswer, LeavesStreams, OutputCount, PutsOut, StoreCount};
 ghost use Rattle.pw_build_objects.specs.Programs.{WasMade};
 ghost use Rattle.pw_build_files.specs.FromBuild.BuildFault.{BuildFault};
-ghost use Rattle.pw_build_files.specs.FromBuild.Phases.{refused_line};
-ghost use Rattle.pw_build_files.specs.Building.{BuildOutcome, Outcome};
+ghost use Rattle.pw_build_files.specs.Building.{Outcome};
+ghost use Rattle.pw_build_files.specs.Seen.{IsSeenLine, SeenOutcome};
 ghost use Rattle.pw_build_files.specs.Genuine.{KeepsGenuine};
 ghost use Rattle.pw_build_files.specs.Lines.{report_text};
 ghost use Rattle.pw_build_files.specs.Outcomes.{AnswersOutcome, AreOpts, FaultCount, HoldsImage, IsLineOfBuild, IsNoWant, ObeysBuild, PutsSome, build_answer, fault_answer};
@@ -108,10 +107,10 @@ pub fn build_modules<S: Store, O: Sink>(
     requires { AreOpts opts.now }
     ensures obeys { IfSome (S.told store.old) (λ told. (input : List ℕ) → Obeys (BuildEffect told.files opts.now input) result.answer told (S.told store.new)) }
     ensures output { IfSome (S.told store.old) (λ told. (input : List ℕ) (effect : Effect) → BuildEffect told.files opts.now input effect → PutsOut effect.output result.answer (O.taken out.old) (O.taken out.new)) }
-    ensures refusal { IfSome (S.told store.old) (λ told. (comes : Result Outcome BuildFault) → BuildOutcome told.files opts.now comes → AnswersOutcome comes result.answer) }
+    ensures refusal { IfSome (S.told store.old) (λ told. (comes : Result Outcome BuildFault) → SeenOutcome told.files opts.now comes → AnswersOutcome comes result.answer) }
     ensures others { IfSome (S.told store.old) (λ told. KeepsUnput result.answer told (S.told store.new)) }
     ensures genuine { IfSome (S.told store.old) (λ told. KeepsGenuine told.files → IfSome (S.told store.new) (λ now. KeepsGenuine now.files)) }
-    ensures line { IfSome (S.told store.old) (λ told. IsLineDue (refused_line (modules_of told.files)) result.answer result.line) }
+    ensures line { IfSome (S.told store.old) (λ told. IsSeenLine told.files result.answer result.line) }
     ensures answer { IsBuildAnswer result.answer }
     ensures store { StoreCount (S.faults store.old) (S.faults store.new) result.answer }
     ensures write { OutputCount (O.faults out.old) (O.faults out.new) result.answer }

@@ -1,16 +1,17 @@
 //! Laws of builds over the files of a store. A function here does nothing: its clauses are facts about all values.
 
-ghost use Rattle.std.specs.Prelude.{◌≡◌, ◌≢◌, ◌≤◌, ℕ, List, [], Ok, Err, IfSome, Option, Result, true};
+ghost use Rattle.std.specs.Prelude.{◌≡◌, ◌≤◌, ℕ, List, [], Ok, IfSome, Option, Result};
 ghost use Rattle.std.specs.List.{AllByRecursion};
-ghost use Rattle.std.specs.FinMap as finite;
 ghost use Rattle.pw_io.specs.Files.{Files, Told};
-ghost use Rattle.pw_store_modules.specs.Modules.{Texts, is_module_file, module_map, modules_of};
+ghost use Rattle.pw_store_modules.specs.Modules.{Texts, module_map, modules_of};
 ghost use Rattle.pw_top_answer.specs.Effects.{NamedFile, PutPart, after_puts};
 ghost use Rattle.pw_build_objects.specs.Programs.{Parts};
 ghost use Rattle.pw_build_files.specs.FromBuild.BuildFault.{BuildFault};
 ghost use Rattle.pw_build_files.specs.FromBuild.Builds.{Builds};
 ghost use Rattle.pw_build_files.specs.FromBuild.Full.{built_anew};
-ghost use Rattle.pw_build_files.specs.Building.{BuildOutcome, Outcome, kept_objects};
+ghost use Rattle.pw_build_files.specs.Building.{BuildOutcome, Outcome, kept_object, kept_objects};
+ghost use Rattle.pw_build_files.specs.Seen.{SeenOutcome};
+ghost use Rattle.pw_store_texts.specs.Seen.{IsSeen};
 ghost use Rattle.pw_build_files.specs.Full.{BuildsImage, image_of};
 ghost use Rattle.pw_build_files.specs.Genuine.{IsGenuineFile, KeepsGenuine};
 ghost use Rattle.pw_db.specs.Limits.{colour_limit};
@@ -23,6 +24,7 @@ use pw_image::laws::images_and_files_are_one_to_one;
 use pw_io::laws::{names, other_files};
 use pw_object::laws::objects_and_files_are_one_to_one;
 use pw_store_modules::modules_are_exact;
+use pw_store_texts::{built_files_are_seen, files_are_seen_in_one_way};
 
 /// The files of a store come to one build.
 pub fn a_store_has_one_build()
@@ -34,6 +36,14 @@ pub fn a_store_has_one_build()
     objects_and_files_are_one_to_one();
 }
 
+/// The files of a store, as a build sees them, come to one build.
+pub fn a_store_is_built_in_one_way()
+    ensures { (files : Files) (opts : Opts) (a b : Result Outcome BuildFault) → opts.colours ≤ colour_limit → SeenOutcome files opts a → SeenOutcome files opts b → a ≡ b }
+{
+    a_store_has_one_build();
+    files_are_seen_in_one_way();
+}
+
 /// Where the kept objects are genuine, a build over a store's files is the full build, but for which objects are made anew.
 pub fn genuine_objects_give_the_full_build()
     ensures { (files : Files) (opts : Opts) (a : Result Parts BuildFault) → KeepsGenuine files → Builds (modules_of files) (kept_objects files) opts a → Builds (modules_of files) [] opts (built_anew a) }
@@ -41,6 +51,20 @@ pub fn genuine_objects_give_the_full_build()
     names();
     modules_are_exact();
     build_laws::genuine_objects_give_the_full_build();
+}
+
+/// What is kept of a module stands so among the files as a build sees them.
+pub fn kept_objects_are_seen()
+    ensures { (files shown : Files) (name : List ℕ) → IsSeen files shown → kept_object files name ≡ kept_object shown name }
+{
+    built_files_are_seen();
+}
+
+/// Where the kept objects are genuine, so they are among the files as a build sees them.
+pub fn genuine_objects_are_seen()
+    ensures { (files shown : Files) → IsSeen files shown → KeepsGenuine files → KeepsGenuine shown }
+{
+    built_files_are_seen();
 }
 
 /// The full build of texts comes to the bytes of one image, or to one fault.
@@ -65,11 +89,6 @@ pub fn builds_leave_genuine_objects()
 {
     other_files();
 }
-
-/// Where no file but a module's text changed, genuine kept objects stay so.
-pub fn module_texts_are_no_objects()
-    ensures { (file : List ℕ) (old new : Files) → is_module_file file ≡ true → ((other : List ℕ) → other ≢ file → finite.get new other ≡ finite.get old other) → KeepsGenuine old → KeepsGenuine new }
-{}
 
 /// Kept objects that are genuine stay so where files are put, the last of them perhaps in part, if each that has the name of an
 /// object's file is that of a genuine object.

@@ -11,9 +11,9 @@ mod report;
 pub use building::build;
 pub use driving::{answer_of, build_modules, build_uncounted, put_report};
 pub use laws::{
-    a_store_has_one_build, builds_leave_genuine_objects, genuine_files_keep_genuine,
-    genuine_objects_give_the_full_build, genuine_objects_give_the_full_image,
-    module_texts_are_no_objects, texts_have_one_image,
+    a_store_has_one_build, a_store_is_built_in_one_way, builds_leave_genuine_objects,
+    genuine_files_keep_genuine, genuine_objects_are_seen, genuine_objects_give_the_full_build,
+    genuine_objects_give_the_full_image, kept_objects_are_seen, texts_have_one_image,
 };
 pub use program::{modules_to_build, program_of};
 pub use pw_build::{

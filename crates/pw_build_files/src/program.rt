@@ -3,7 +3,6 @@
 ghost use Rattle.std.specs.Prelude.{◌≡◌, ◌≤◌, ◌+◌, ℕ, Ok, Option, IfErr, IfOk, IfSome, OnOk, count_by, length, map};
 ghost use Rattle.std.specs.List.{AllByRecursion};
 ghost use Rattle.pw_io.specs.Files.{Keeps};
-ghost use Rattle.pw_store_modules.specs.Modules.{modules_of};
 ghost use Rattle.pw_store_modules.specs.Views.{source};
 ghost use Rattle.pw_db.specs.Database.{IsDatabase};
 ghost use Rattle.pw_object.specs.Object.{IsObject};
@@ -17,7 +16,8 @@ ghost use Rattle.pw_build.specs.Builds.{Builds, first_phases};
 ghost use Rattle.pw_build.specs.Phases.{IsLine, refused_line};
 ghost use Rattle.pw_store_kept.specs.Kept.{kept_object};
 ghost use Rattle.pw_store_kept.specs.Files.{HoldBytes, file_view};
-ghost use Rattle.pw_build_files.specs.Programs.{AreAsMany, BuildsFiles, CountsAtMost, FaultBuilds, AnswersFault, FaultCount, HoldsImage, IsCounted, IsNoWant};
+ghost use Rattle.pw_build_files.specs.Seen.{SeesFault, SeesModules};
+ghost use Rattle.pw_build_files.specs.Programs.{AreAsMany, BuildsFiles, CountsAtMost, FaultBuilds, FaultCount, HoldsImage, IsCounted, IsNoWant};
 ghost use Rattle.pw_db.specs.Limits.{colour_limit};
 
 use pw_build::{BuildFault, Unbuilt, first_phases, no_refusal_is_want_of_memory};
@@ -27,23 +27,24 @@ use pw_build_opts::Opts;
 use pw_io::Store;
 use pw_object::Object;
 use pw_store_kept::{ProgramFiles, files_of, read_kept};
-use pw_store_modules::{Module, read_modules};
+use pw_store_modules::Module;
+use pw_store_texts::seen_modules;
 use pw_value::LinkFault;
 use std::alloc::{AllocError, Global};
 use std::sync::ledger::Ledger;
 
-/// The modules of a store, of which there are not too many.
-#[tactic(auto, using(crate::proofs::ModulesLemmas::modules_no_want, crate::proofs::ModulesLemmas::modules_line, crate::proofs::ModulesLemmas::modules_count, crate::proofs::ModulesLemmas::modules_faults, crate::proofs::ModulesLemmas::modules_few))]
+/// The modules of a store as a build sees them, of which there are not too many.
+#[tactic(auto, using(crate::proofs::ModulesLemmas::modules_no_want, crate::proofs::ModulesLemmas::modules_line, crate::proofs::ModulesLemmas::modules_count, crate::proofs::ModulesLemmas::modules_faults, crate::proofs::ModulesLemmas::modules_seen, crate::proofs::ModulesLemmas::modules_few))]
 pub fn modules_to_build<S: Store>(alloc: Global, store: &mut S) -> Result<Vec<Module>, Unbuilt>
-    ensures modules { IfSome (S.told store.old) (λ told. IfOk result (λ modules. map source modules.items ≡ modules_of told.files)) }
-    ensures fault { IfSome (S.told store.old) (λ told. IfErr result (λ unbuilt. AnswersFault (first_phases (modules_of told.files)) unbuilt.fault)) }
-    ensures few { IfSome (S.told store.old) (λ told. OnOk result (length (modules_of told.files) ≤ module_limit)) }
+    ensures modules { IfSome (S.told store.old) (λ told. IfOk result (λ modules. SeesModules told.files (map source modules.items))) }
+    ensures fault { IfSome (S.told store.old) (λ told. IfErr result (λ unbuilt. SeesFault told.files unbuilt.fault)) }
+    ensures few { IfSome (S.told store.old) (λ told. IfOk result (λ modules. length modules.items ≤ module_limit)) }
     ensures line { IfErr result (λ unbuilt. (due : Option ℕ) → IsLine due unbuilt.fault unbuilt.line) }
     ensures proper { IfErr result (λ unbuilt. IsNoWant unbuilt.fault) }
     ensures same { Keeps (S.told store.old) (S.told store.new) }
     ensures count { FaultCount (S.faults store.old) (S.faults store.new) result }
 {
-    Ok(read_modules(alloc, store)?)
+    Ok(seen_modules(alloc, store)?)
 }
 
 /// The program of modules, and of what the store keeps of them.

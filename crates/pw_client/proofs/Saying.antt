@@ -1,6 +1,6 @@
 -- What the main theorem says of `hello`.
 use Rattle.std.specs.Prelude.{◌≡◌, ◌↔◌, ℕ, suc, ◌+◌, ◌≤◌, List, [], ◌∷◌, ◌++◌, Option, None, Some, IfSome, Result, Ok, Err, IsOk}
-use Rattle.std.proofs.Common.{arith, ap, refl, subst, sym, ◌∙◌}
+use Rattle.std.proofs.Common.{⊎_elim, arith, ap, refl, subst, sym, ◌∙◌}
 use Rattle.std.proofs.lemmas.List.{append-nil, append_assoc}
 use Rattle.pw_value.specs.Limits.{stack_least}
 use Rattle.pw_value.specs.ProgramNames.{main_name, putchar_name, start_name}
@@ -37,20 +37,22 @@ use Rattle.pw_top.specs.FromLawSession.FromMeaning.FromLawWhole.Programs.{AreMod
 use Rattle.pw_top.specs.FromLawSession.FromMeaning.Meaning.{BuildsAndMeans, Means, runs_of}
 use Rattle.pw_commands.specs.MachineRun.{run_answer, run_output}
 use Rattle.pw_top_answer.specs.declared.answer.Answer.{Answer}
-use Rattle.pw_top_answer.specs.declared.answer.Answer.TheVariants.{Done, Ended, Usage, Refused, RefusedSource, Cpp, LinkRefused, StackStop, Spent, Halted, ReadFault, WriteFault, StoreFault, NoMemory, BadFile, BadScript, NoFrames, Undefined}
+use Rattle.pw_top_answer.specs.declared.answer.Answer.TheVariants.{Done, Ended, Usage, Refused, RefusedSource, Cpp, LinkRefused, StackStop, Spent, Halted, ReadFault, WriteFault, StoreFault, NoMemory, BadFile, BadScript, NoFrames, Undefined, UndefinedSource}
 use Rattle.pw_top_answer.specs.Outcomes.{Answers, LeavesStreams, PutsOut}
 use Rattle.pw_top_words.specs.CommandLine.{command_of}
 use Rattle.pw_top_words.specs.declared.commands.Command.{Command}
 use Rattle.pw_top_words.specs.declared.commands.Command.TheVariants.{Go}
 use Rattle.pw_top_words.specs.Limits.{IsWithin}
-use Rattle.pw_top.specs.Commands.{BuildsWhole, IsNoSession}
+use Rattle.pw_top.specs.Commands.{IsNoSession}
+use Rattle.pw_top.specs.Telling.{AnswersAs}
+use Rattle.pw_commands_cpp.specs.Telling.{TellsOrFails}
 use Rattle.pw_top.specs.Whole.{ComesInFull, IfMade, RunsFull}
 use Rattle.pw_hello.specs.Hello.{hello, hello_main, hello_module, hello_name, hello_output, hello_run, hello_syntax, hello_text, hello_tree}
-use Rattle.pw_client.specs.Saying.{HoldsHello, PutsPrefix, SaysHi}
+use Rattle.pw_client.specs.Saying.{HoldsHello, IsHello, PutsPrefix, SaysHi}
 
 -- ---- the program of the texts
 
-pub texts_are_hello : HasTree hello_text hello_syntax → Checks hello_syntax (Ok hello_tree) → (files : Files) → HoldsHello files → IsProgramOf (module_map files) hello
+pub texts_are_hello : HasTree hello_text hello_syntax → Checks hello_syntax (Ok hello_tree) → (files : Files) → IsHello files → IsProgramOf (module_map files) hello
 texts_are_hello tree checks files holds =
     subst (λ entries. AreModulesOf entries (hello_module ∷ [])) (sym holds) (record { name = refl; tree = hello_syntax; has_tree = tree; checks = checks }, tt)
 
@@ -80,7 +82,7 @@ accepted_alone exact tree checks =
 abbrev NotRefused : Texts → Opts → Type 0
 NotRefused texts opts = (who : List ℕ) (refusal : Refusal) → BuildsImage texts opts (Err (build.Refused who refusal)) → ⊥
 
-pub not_refused : Compiling → HasTree hello_text hello_syntax → Checks hello_syntax (Ok hello_tree) → (files : Files) → HoldsHello files → (opts : Opts) → NotRefused (module_map files) opts
+pub not_refused : Compiling → HasTree hello_text hello_syntax → Checks hello_syntax (Ok hello_tree) → (files : Files) → IsHello files → (opts : Opts) → NotRefused (module_map files) opts
 not_refused exact tree checks files holds opts who refusal built =
     no_refusal (limit_passed ((hello_name, hello_text) ∷ [])) hello_name (compiled hello_name hello_text) (accepted_alone exact tree checks) opts who refusal
     (subst (λ sources. BuildsBy (within (limit_passed sources) (flows_of sources)) [] opts (Err (build.Refused who refusal))) holds built)
@@ -196,26 +198,28 @@ by_answer wanted (BadFile name at) taken taken' e part says = says e
 by_answer wanted (BadScript at) taken taken' e part says = says e
 by_answer wanted (NoFrames address) taken taken' e part says = says e
 by_answer wanted (Undefined operation home token) taken taken' e part says = says e
+by_answer wanted (UndefinedSource operation home token) taken taken' e part says = says e
 
-if_made : (answer : Answer) (P : Type 0) (input input' taken taken' : Option (List ℕ)) → LeavesStreams answer input input' taken taken' → IfMade answer P → (P → SaysHi answer taken taken') → SaysHi answer taken taken'
-if_made Done P input input' taken taken' left h says = says h
-if_made (Ended status) P input input' taken taken' left h says = says h
-if_made Usage P input input' taken taken' left h says = says h
-if_made (Refused name refusal) P input input' taken taken' left h says = says h
-if_made (RefusedSource name refusal) P input input' taken taken' left h says = says h
-if_made (Cpp fault) P input input' taken taken' left h says = says h
-if_made (LinkRefused fault) P input input' taken taken' left h says = says h
-if_made StackStop P input input' taken taken' left h says = says h
-if_made Spent P input input' taken taken' left h says = says h
-if_made (Halted halt at) P input input' taken taken' left h says = says h
-if_made ReadFault P input input' taken taken' left h says = says h
-if_made WriteFault P input input' taken taken' left h says = says h
-if_made StoreFault P input input' taken taken' left h says = ([], hello_output, refl, nothing_put taken taken' left.1)
-if_made NoMemory P input input' taken taken' left h says = tt
-if_made (BadFile name at) P input input' taken taken' left h says = says h
-if_made (BadScript at) P input input' taken taken' left h says = says h
-if_made (NoFrames address) P input input' taken taken' left h says = says h
-if_made (Undefined operation home token) P input input' taken taken' left h says = says h
+if_made : (answer : Answer) (P : Type 0) (taken taken' : Option (List ℕ)) → (answer ≡ StoreFault → taken' ≡ taken) → IfMade answer P → (P → SaysHi answer taken taken') → SaysHi answer taken taken'
+if_made Done P taken taken' left h says = says h
+if_made (Ended status) P taken taken' left h says = says h
+if_made Usage P taken taken' left h says = says h
+if_made (Refused name refusal) P taken taken' left h says = says h
+if_made (RefusedSource name refusal) P taken taken' left h says = says h
+if_made (Cpp fault) P taken taken' left h says = says h
+if_made (LinkRefused fault) P taken taken' left h says = says h
+if_made StackStop P taken taken' left h says = says h
+if_made Spent P taken taken' left h says = says h
+if_made (Halted halt at) P taken taken' left h says = says h
+if_made ReadFault P taken taken' left h says = says h
+if_made WriteFault P taken taken' left h says = says h
+if_made StoreFault P taken taken' left h says = ([], hello_output, refl, nothing_put taken taken' (left refl))
+if_made NoMemory P taken taken' left h says = tt
+if_made (BadFile name at) P taken taken' left h says = says h
+if_made (BadScript at) P taken taken' left h says = says h
+if_made (NoFrames address) P taken taken' left h says = says h
+if_made (Undefined operation home token) P taken taken' left h says = says h
+if_made (UndefinedSource operation home token) P taken taken' left h says = says h
 
 -- ---- the call
 
@@ -240,33 +244,49 @@ says_full runs one images texts opts accepted (Err fault) built of least input a
     let part = part_put [] hello_output answer taken taken' refl ran.1 in
     by_answer (fault_answer fault) answer taken taken' ran.0 part (λ e. subst (λ a. SaysHi a taken taken') e (says_fault texts opts.build accepted fault built.0 taken taken' part))
 
-pub says_built : Runs → OneProgram → OneImage → (told : Told) (new : Option Told) (opts : RunOpts) → NotRefused (module_map told.files) opts.build → IsProgramOf (module_map told.files) hello → stack_least ≤ opts.build.stack
-    → (input : List ℕ) → AreBytes input → (answer : Answer) (input' taken taken' : Option (List ℕ)) → LeavesStreams answer (Some input) input' taken taken'
+pub says_built : Runs → OneProgram → OneImage → Compiling → HasTree hello_text hello_syntax → Checks hello_syntax (Ok hello_tree) → (told : Told) (new : Option Told) (opts : RunOpts) → HoldsHello told.files → stack_least ≤ opts.build.stack
+    → (input : List ℕ) → AreBytes input → (answer : Answer) (input' taken taken' : Option (List ℕ)) → (answer ≡ StoreFault → taken' ≡ taken)
     → IfMade answer (ComesInFull opts.build told new (λ full. RunsFull opts.budget input full answer input' taken taken')) → SaysHi answer taken taken'
-says_built runs one images told new opts accepted of least input are answer input' taken taken' left made =
-    if_made answer (ComesInFull opts.build told new (λ full. RunsFull opts.budget input full answer input' taken taken')) (Some input) input' taken taken' left made (λ comes.
-    says_full runs one images (module_map told.files) opts accepted comes.0 comes.1 of least input are answer input' taken taken' comes.2)
+says_built runs one images exact tree checks told new opts holds least input are answer input' taken taken' left made =
+    if_made answer (ComesInFull opts.build told new (λ full. RunsFull opts.budget input full answer input' taken taken')) taken taken' left made (λ comes.
+    let is : IsHello comes.0 = holds comes.0 comes.1 in
+    says_full runs one images (module_map comes.0) opts (not_refused exact tree checks comes.0 is opts.build) comes.2 comes.3 (texts_are_hello tree checks comes.0 is) least input are answer input' taken taken' comes.4)
+
+-- the answer of the call, by the command's
+pub stays : (answer : Answer) (input input' taken taken' : Option (List ℕ)) → LeavesStreams answer input input' taken taken' → answer ≡ StoreFault → taken' ≡ taken
+stays answer input input' taken taken' left e = (subst (λ a. LeavesStreams a input input' taken taken') e left).1
+
+no_fault : (name : List ℕ) (refusal : Refusal) → Refused name refusal ≡ StoreFault → ⊥
+no_fault name refusal e = cc
+
+says_as : (files : Files) (own answer : Answer) (input input' taken taken' : Option (List ℕ)) → LeavesStreams answer input input' taken taken' → TellsOrFails files own answer → ((own ≡ StoreFault → taken' ≡ taken) → SaysHi own taken taken') → SaysHi answer taken taken'
+says_as files (Refused name refusal) answer input input' taken taken' left told says = absurd (says (λ e. absurd (no_fault name refusal e)))
+says_as files own answer input input' taken taken' left told says = subst (λ a. SaysHi a taken taken') (sym told) (says (λ e. stays answer input input' taken taken' left (told ∙ e)))
+
+pub no_memory_says : (answer : Answer) (taken taken' : Option (List ℕ)) → answer ≡ NoMemory → SaysHi answer taken taken'
+no_memory_says answer taken taken' e = subst (λ a. SaysHi a taken taken') (sym e) tt
 
 -- of a store and an input that tell what they hold
 says_told : Runs → OneProgram → OneImage → Compiling → HasTree hello_text hello_syntax → Checks hello_syntax (Ok hello_tree)
     → (command : Option Command) (opts : RunOpts) → command ≡ Some (Go opts) → stack_least ≤ opts.build.stack
     → (old new : Option Told) (input input' taken taken' : Option (List ℕ)) (answer : Answer)
     → (IsNoSession command → LeavesStreams answer input input' taken taken')
-    → IfSome old (λ told. IfSome input (λ rest. BuildsWhole command answer told new rest input' taken taken'))
+    → IfSome old (λ told. IfSome input (λ rest. AnswersAs command answer told new rest input' taken taken'))
     → IfSome old (λ told. HoldsHello told.files → KeepsGenuine told.files → IfSome input (λ rest. AreBytes rest → SaysHi answer taken taken'))
-says_told runs one images exact tree checks command opts e least None new input input' taken taken' answer left whole = tt
-says_told runs one images exact tree checks command opts e least (Some told) new None input' taken taken' answer left whole = λ holds genuine. tt
-says_told runs one images exact tree checks command opts e least (Some told) new (Some rest) input' taken taken' answer left whole = λ holds genuine are.
-    says_built runs one images told new opts (not_refused exact tree checks told.files holds opts.build) (texts_are_hello tree checks told.files holds) least rest are answer input' taken taken'
-    (left (subst (λ (c : Option Command). IsNoSession c) (sym e) tt))
-    (subst (λ (c : Option Command). BuildsWhole c answer told new rest input' taken taken') e whole genuine)
+says_told runs one images exact tree checks command opts e least None new input input' taken taken' answer left does = tt
+says_told runs one images exact tree checks command opts e least (Some told) new None input' taken taken' answer left does = λ holds genuine. tt
+says_told runs one images exact tree checks command opts e least (Some told) new (Some rest) input' taken taken' answer left does = λ holds genuine are.
+    let d : AnswersAs (Some (Go opts)) answer told new rest input' taken taken' = subst (λ (c : Option Command). AnswersAs c answer told new rest input' taken taken') e does in
+    let streams : LeavesStreams answer (Some rest) input' taken taken' = left (subst (λ (c : Option Command). IsNoSession c) (sym e) tt) in
+    ⊎_elim {C = SaysHi answer taken taken'} (λ t. says_as told.files d.answer answer (Some rest) input' taken taken' streams t (λ quiet.
+    says_built runs one images exact tree checks told new opts holds least rest are d.answer input' taken taken' quiet (d.whole genuine))) (λ n. no_memory_says answer taken taken' n) d.answered
 
 pub says_hi : Runs → OneProgram → OneImage → Compiling → HasTree hello_text hello_syntax → Checks hello_syntax (Ok hello_tree)
     → ((words : List (List ℕ)) (command : Command) → command_of words ≡ Some command → IsWithin command)
     → (words : List (List ℕ)) (old new : Option Told) (input input' taken taken' : Option (List ℕ)) (answer : Answer)
     → (IsNoSession (command_of words) → LeavesStreams answer input input' taken taken')
-    → IfSome old (λ told. IfSome input (λ rest. BuildsWhole (command_of words) answer told new rest input' taken taken'))
+    → IfSome old (λ told. IfSome input (λ rest. AnswersAs (command_of words) answer told new rest input' taken taken'))
     → (opts : RunOpts) → command_of words ≡ Some (Go opts)
     → IfSome old (λ told. HoldsHello told.files → KeepsGenuine told.files → IfSome input (λ rest. AreBytes rest → SaysHi answer taken taken'))
-says_hi runs one images exact tree checks lawful words old new input input' taken taken' answer left whole opts e =
-    says_told runs one images exact tree checks (command_of words) opts e (lawful words (Go opts) e).1.0 old new input input' taken taken' answer left whole
+says_hi runs one images exact tree checks lawful words old new input input' taken taken' answer left does opts e =
+    says_told runs one images exact tree checks (command_of words) opts e (lawful words (Go opts) e).1.0 old new input input' taken taken' answer left does

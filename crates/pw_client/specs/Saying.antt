@@ -3,13 +3,18 @@ use Rattle.std.specs.Prelude.{◌≡◌, ℕ, List, [], ◌∷◌, ◌++◌, Opt
 use Rattle.pw_io.specs.Files.{Files}
 use Rattle.pw_io.specs.Streams.{Appends}
 use Rattle.pw_store_modules.specs.Modules.{modules_of}
+use Rattle.pw_store_texts.specs.Seen.{IsSeen}
 use Rattle.pw_top_answer.specs.declared.answer.Answer.{Answer}
-use Rattle.pw_top_answer.specs.declared.answer.Answer.TheVariants.{Done, Ended, Usage, Refused, RefusedSource, Cpp, StackStop, Halted, NoMemory, BadFile, BadScript, NoFrames, Undefined}
+use Rattle.pw_top_answer.specs.declared.answer.Answer.TheVariants.{Done, Ended, Usage, Refused, RefusedSource, Cpp, StackStop, Halted, NoMemory, BadFile, BadScript, NoFrames, Undefined, UndefinedSource}
 use Rattle.pw_hello.specs.Hello.{hello_name, hello_output, hello_text}
 
 -- the only module of the files is `hello`
+abbrev pub IsHello : Files → Type 0
+IsHello files = modules_of files ≡ (hello_name, hello_text) ∷ []
+
+-- so it is of the files as a build sees them
 abbrev pub HoldsHello : Files → Type 0
-HoldsHello files = modules_of files ≡ (hello_name, hello_text) ∷ []
+HoldsHello files = (shown : Files) → IsSeen files shown → IsHello shown
 
 -- a prefix of "Hi" was put out
 abbrev pub PutsPrefix : Option (List ℕ) → Option (List ℕ) → Type 0
@@ -32,4 +37,5 @@ SaysHi (BadFile name at) taken taken' = ⊥
 SaysHi (BadScript at) taken taken' = ⊥
 SaysHi (NoFrames address) taken taken' = ⊥
 SaysHi (Undefined operation home token) taken taken' = ⊥
+SaysHi (UndefinedSource operation home token) taken taken' = ⊥
 SaysHi _ taken taken' = PutsPrefix taken taken'

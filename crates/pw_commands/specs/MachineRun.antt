@@ -8,7 +8,7 @@ use Rattle.pw_machine.specs.Run.{Progress, Running, Stopped}
 pub use Rattle.pw_machine.specs.Run.{start_state}
 use Rattle.pw_top_answer.specs.Effects.{Effect}
 use Rattle.pw_top_answer.specs.declared.answer.Answer.{Answer}
-use Rattle.pw_top_answer.specs.declared.answer.Answer.TheVariants.{Done, Ended, Usage, Refused, LinkRefused, StackStop, Spent, Halted, ReadFault, WriteFault, StoreFault, NoMemory, BadFile, BadScript, NoFrames, RefusedSource, Cpp, Undefined}
+use Rattle.pw_top_answer.specs.declared.answer.Answer.TheVariants.{Done, Ended, Usage, Refused, LinkRefused, StackStop, Spent, Halted, ReadFault, WriteFault, StoreFault, NoMemory, BadFile, BadScript, NoFrames, RefusedSource, Cpp, Undefined, UndefinedSource}
 
 -- how a run ended, as an answer; one that goes on has spent its budget
 abbrev pub end_answer : End → Answer
@@ -54,4 +54,5 @@ IsRunAnswer (BadFile name at) = ⊥
 IsRunAnswer (BadScript at) = ⊥
 IsRunAnswer (NoFrames address) = ⊥
 IsRunAnswer (Undefined operation name token) = ⊥
+IsRunAnswer (UndefinedSource operation name token) = ⊥
 IsRunAnswer _ = Unit {0}

@@ -1,1 +1,2 @@
 pub mod CppLemmas
+pub mod TellingLemmas

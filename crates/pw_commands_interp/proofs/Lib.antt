@@ -3,3 +3,4 @@ mod BuildLemmas
 mod LineLemmas
 mod TypedLemmas
 mod FrameLemmas
+pub mod ToldLemmas

@@ -1,7 +1,7 @@
 -- The line of an answer.
-use Rattle.std.proofs.Common.{◌≡◌, inl, inr, ℕ, List, map, Option, Some, None, refl, sym, subst}
+use Rattle.std.proofs.Common.{◌≡◌, inl, inr, ℕ, List, map, Option, Some, None, refl, sym, ap, subst, ◌∙◌}
 use Rattle.std.specs.Prelude.{IfSome}
-use Rattle.pw_io.specs.Files.{Told}
+use Rattle.pw_io.specs.Files.{Files, Told}
 use Rattle.pw_top_answer.specs.declared.answer.Answer.{Answer}
 use Rattle.pw_top_answer.specs.declared.answer.Answer.TheVariants as answer
 use Rattle.pw_top_answer.specs.declared.answer.Reply.{Reply}
@@ -9,10 +9,12 @@ use Rattle.pw_top_answer.specs.Outcomes.{InputCount, IsLineDue, LeavesStreams, O
 use Rattle.pw_store_modules.specs.declared.modules.Module.{Module}
 use Rattle.pw_store_modules.specs.Modules.{Source, modules_of}
 use Rattle.pw_store_modules.specs.Views.{source}
+use Rattle.pw_store_texts.specs.Seen.{IsSeen}
 use Rattle.pw_build_files.specs.FromBuild.BuildFault.{BuildFault}
 use Rattle.pw_build_files.specs.FromBuild.BuildFault.TheVariants as build
 use Rattle.pw_build_files.specs.FromBuild.Phases.{IsLine, refused_line}
 use Rattle.pw_build_files.specs.Outcomes.{IsNoWant, fault_answer}
+use Rattle.pw_build_files.specs.Seen.{SeesModules}
 use Rattle.pw_commands_interp.specs.Interpreting.{IsInterpAnswer, IsRunAnswer, RepliesTo, TellsToken, run_line, told_line}
 use Rattle.pw_commands_interp.proofs.RunLemmas.{run_proper, run_store, run_streams}
 
@@ -72,14 +74,14 @@ reply_streams sources a reply i i' o o' k r = of_reply (λ x. LeavesStreams x i 
 
 -- ---- refusals
 
-pub line_read : (ms : List Module) (told : Option Told) (reply : Reply) → IfSome told (λ t. map source ms ≡ modules_of t.files) → IsLineDue (told_line (map source ms) reply.answer) reply.answer reply.line
-    → IfSome told (λ t. IsLineDue (told_line (modules_of t.files) reply.answer) reply.answer reply.line)
-line_read ms None reply e h = tt
-line_read ms (Some t) reply e h = subst (λ (ss : List Source). IsLineDue (told_line ss reply.answer) reply.answer reply.line) e h
+pub line_read : ((files shown other : Files) → IsSeen files shown → IsSeen files other → shown ≡ other) → (ms : List Module) (told : Option Told) (reply : Reply) → IfSome told (λ t. SeesModules t.files (map source ms)) → IsLineDue (told_line (map source ms) reply.answer) reply.answer reply.line
+    → IfSome told (λ t. (shown : Files) → IsSeen t.files shown → IsLineDue (told_line (modules_of shown) reply.answer) reply.answer reply.line)
+line_read way ms None reply e h = tt
+line_read way ms (Some t) reply e h = λ shown is. subst (λ (ss : List Source). IsLineDue (told_line ss reply.answer) reply.answer reply.line) (e.2 ∙ ap (λ (f : Files). modules_of f) (way t.files e.0 shown e.1 is)) h
 
-pub line_unread : (told : Option Told) (fault : BuildFault) (a : Answer) (line : Option ℕ) → a ≡ fault_answer fault → ((due : Option ℕ) → IsLine due fault line) → IfSome told (λ t. IsLineDue (told_line (modules_of t.files) a) a line)
+pub line_unread : (told : Option Told) (fault : BuildFault) (a : Answer) (line : Option ℕ) → a ≡ fault_answer fault → ((due : Option ℕ) → IsLine due fault line) → IfSome told (λ t. (shown : Files) → IsSeen t.files shown → IsLineDue (told_line (modules_of shown) a) a line)
 line_unread None fault a line is h = tt
-line_unread (Some t) fault a line is h = line_of_fault (modules_of t.files) fault a line is (h (refused_line (modules_of t.files)))
+line_unread (Some t) fault a line is h = λ shown seen. line_of_fault (modules_of shown) fault a line is (h (refused_line (modules_of shown)))
 
 proper_is : (fault : BuildFault) → IsNoWant fault → IsInterpAnswer (fault_answer fault)
 proper_is (build.Refused name refusal) h = h

@@ -1,26 +1,31 @@
 //! The command `interp`.
 
 ghost use Rattle.std.specs.Prelude.{◌≡◌, ◌≤◌, ◌<◌, IfSome, List, map};
-ghost use Rattle.pw_io.specs.Files.{Keeps};
+ghost use Rattle.pw_io.specs.Files.{Files, Keeps};
 ghost use Rattle.pw_cmean.specs.Worlds.{ProgramModule};
 ghost use Rattle.pw_interp.specs.Programs.{program_of};
 ghost use Rattle.pw_interp_calls.specs.Frames.{frame_among};
 ghost use Rattle.pw_db.specs.Limits.{colour_limit};
 ghost use Rattle.pw_store_modules.specs.Modules.{modules_of};
 ghost use Rattle.pw_store_modules.specs.Views.{source};
+ghost use Rattle.pw_store_texts.specs.Seen.{IsSeen};
 ghost use Rattle.pw_top_answer.specs.Outcomes.{InputCount, IsLineDue, LeavesStreams, OutputCount, StoreCount};
 ghost use Rattle.pw_build_files.specs.Outcomes.{AreOpts, HoldsImage};
-ghost use Rattle.pw_commands_interp.specs.Interpreting.{AreTyped, Did, IsInterpAnswer, IsRunAnswer, RunsAs, RunsLinked, UnlessMemory, told_line};
+ghost use Rattle.pw_commands_interp.specs.Interpreting.{AreTyped, Did, DidOf, DidPlain, InterpOf, IsInterpAnswer, IsRunAnswer, RunsAs, RunsLinked, UnlessMemory, told_line};
 
 use crate::answers::{answer_of, with_line};
 use crate::programs::{Program, program_of};
+use crate::telling::told_reply;
 use pw_build_files::build_laws::modules_have_one_build;
-use pw_build_files::{answer_of as refusal_of, modules_to_build, program_of as link_program};
+use pw_build_files::{
+    answer_of as refusal_of, kept_objects_are_seen, modules_to_build, program_of as link_program,
+};
 use pw_build_objects::Steps;
 use pw_build_opts::RunOpts;
 use pw_interp::interpret;
 use pw_io::{Sink, Source, Store};
 use pw_store_modules::Module;
+use pw_store_texts::files_are_seen_in_one_way;
 use pw_top_answer::{Answer, Reply};
 use std::alloc::{AllocError, Global};
 use std::marker::Brand;
@@ -87,7 +92,7 @@ fn interpret_counted<S: Store, L: Ledger, I: Source, O: Sink>(
     requires name { blank.name ≡ L.name }
     requires parts { blank.parts ≡ L.parts }
     requires some { 0 < blank.parts }
-    ensures did { IfSome (S.told store.old) (λ told. map source modules.now ≡ modules_of told.files → IfSome (I.rest input.old) (λ rest. Did told.files opts.now rest result.answer (I.rest input.new) (O.taken out.old) (O.taken out.new))) }
+    ensures did { IfSome (S.told store.old) (λ told. (shown : Files) → IsSeen told.files shown → map source modules.now ≡ modules_of shown → IfSome (I.rest input.old) (λ rest. DidOf (InterpOf shown opts.now rest) rest result.answer (I.rest input.new) (O.taken out.old) (O.taken out.new))) }
     ensures line { IsLineDue (told_line (map source modules.now) result.answer) result.answer result.line }
     ensures same { Keeps (S.told store.old) (S.told store.new) }
     ensures answer { IsInterpAnswer result.answer }
@@ -97,6 +102,7 @@ fn interpret_counted<S: Store, L: Ledger, I: Source, O: Sink>(
     ensures streams { LeavesStreams result.answer (I.rest input.old) (I.rest input.new) (O.taken out.old) (O.taken out.new) }
 {
     modules_have_one_build();
+    kept_objects_are_seen();
     let mut steps: Steps<L> = Steps::new(blank);
     match link_program(alloc, store, modules, &opts.build, &mut steps) {
         Ok(linked) => {
@@ -104,6 +110,43 @@ fn interpret_counted<S: Store, L: Ledger, I: Source, O: Sink>(
             let answer = run_linked(alloc, modules, image, opts, input, out);
             with_line(alloc, modules, answer)
         }
+        Err(unbuilt) => Reply {
+            line: unbuilt.line,
+            answer: refusal_of(unbuilt.fault),
+        },
+    }
+}
+
+/// The same, over the modules of a store.
+fn interpret_seen<S: Store, I: Source, O: Sink>(
+    alloc: Global,
+    store: &mut S,
+    opts: &RunOpts,
+    input: &mut I,
+    out: &mut O,
+) -> Reply
+    requires { AreOpts opts.now.build }
+    ensures did { IfSome (S.told store.old) (λ told. IfSome (I.rest input.old) (λ rest. DidPlain told.files opts.now rest result.answer (I.rest input.new) (O.taken out.old) (O.taken out.new))) }
+    ensures line { IfSome (S.told store.old) (λ told. (shown : Files) → IsSeen told.files shown → IsLineDue (told_line (modules_of shown) result.answer) result.answer result.line) }
+    ensures same { Keeps (S.told store.old) (S.told store.new) }
+    ensures answer { IsInterpAnswer result.answer }
+    ensures store { StoreCount (S.faults store.old) (S.faults store.new) result.answer }
+    ensures read { InputCount (I.faults input.old) (I.faults input.new) result.answer }
+    ensures write { OutputCount (O.faults out.old) (O.faults out.new) result.answer }
+    ensures streams { LeavesStreams result.answer (I.rest input.old) (I.rest input.new) (O.taken out.old) (O.taken out.new) }
+{
+    modules_have_one_build();
+    files_are_seen_in_one_way();
+    match modules_to_build(alloc, store) {
+        Ok(modules) => interpret_counted::<S, Brand, I, O>(
+            alloc,
+            store,
+            &modules,
+            opts,
+            Blank::new(1),
+            input,
+            out,
+        ),
         Err(unbuilt) => Reply {
             line: unbuilt.line,
             answer: refusal_of(unbuilt.fault),
@@ -120,6 +163,7 @@ fn interpret_counted<S: Store, L: Ledger, I: Source, O: Sink>(
 /// module that is refused, with the line, and `LinkRefused` where the modules are refused together; then nothing is read or put
 /// out. At a fault of the store, the input or the output, or for want of memory, the run is given up: what was put out is a front of
 /// the program's output, and what was read a front of what it reads.
+#[tactic(auto, using(crate::proofs::ToldLemmas::did_told, crate::proofs::ToldLemmas::did_stored, crate::proofs::ToldLemmas::line_told, crate::proofs::ToldLemmas::line_stored, crate::proofs::ToldLemmas::kind_told, crate::proofs::ToldLemmas::kind_stored, crate::proofs::ToldLemmas::store_told, crate::proofs::ToldLemmas::read_told, crate::proofs::ToldLemmas::read_stored, crate::proofs::ToldLemmas::write_told, crate::proofs::ToldLemmas::write_stored, crate::proofs::ToldLemmas::streams_told, crate::proofs::ToldLemmas::streams_stored, crate::proofs::ToldLemmas::kept_told))]
 pub fn interpret_modules<S: Store, I: Source, O: Sink>(
     alloc: Global,
     store: &mut S,
@@ -129,7 +173,7 @@ pub fn interpret_modules<S: Store, I: Source, O: Sink>(
 ) -> Reply
     requires { AreOpts opts.now.build }
     ensures did { IfSome (S.told store.old) (λ told. IfSome (I.rest input.old) (λ rest. Did told.files opts.now rest result.answer (I.rest input.new) (O.taken out.old) (O.taken out.new))) }
-    ensures line { IfSome (S.told store.old) (λ told. IsLineDue (told_line (modules_of told.files) result.answer) result.answer result.line) }
+    ensures line { IfSome (S.told store.old) (λ told. (shown : Files) → IsSeen told.files shown → IsLineDue (told_line (modules_of shown) result.answer) result.answer result.line) }
     ensures same { Keeps (S.told store.old) (S.told store.new) }
     ensures answer { IsInterpAnswer result.answer }
     ensures store { StoreCount (S.faults store.old) (S.faults store.new) result.answer }
@@ -137,20 +181,15 @@ pub fn interpret_modules<S: Store, I: Source, O: Sink>(
     ensures write { OutputCount (O.faults out.old) (O.faults out.new) result.answer }
     ensures streams { LeavesStreams result.answer (I.rest input.old) (I.rest input.new) (O.taken out.old) (O.taken out.new) }
 {
-    modules_have_one_build();
-    match modules_to_build(alloc, store) {
-        Ok(modules) => interpret_counted::<S, Brand, I, O>(
+    match store.names(alloc) {
+        Ok(names) => told_reply(
             alloc,
-            store,
-            &modules,
-            opts,
-            Blank::new(1),
-            input,
-            out,
+            &names,
+            interpret_seen(alloc, store, opts, input, out),
         ),
-        Err(unbuilt) => Reply {
-            line: unbuilt.line,
-            answer: refusal_of(unbuilt.fault),
+        Err(error) => Reply {
+            answer: Answer::from(error),
+            line: None,
         },
     }
 }

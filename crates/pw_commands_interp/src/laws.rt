@@ -7,7 +7,7 @@ ghost use Rattle.pw_build_opts.specs.declared.opts.RunOpts.{RunOpts};
 ghost use Rattle.pw_build_files.specs.Genuine.{KeepsGenuine};
 ghost use Rattle.pw_commands_interp.specs.Interpreting.{InterpEffect, InterpsInFull};
 
-use pw_build_files::genuine_objects_give_the_full_build;
+use pw_build_files::{genuine_objects_are_seen, genuine_objects_give_the_full_build};
 
 /// What `interp` leaves of its input is what stands behind the prefix that the program read.
 pub fn runs_leave_a_rest()
@@ -18,5 +18,6 @@ pub fn runs_leave_a_rest()
 pub fn genuine_objects_run_as_the_full_build()
     ensures { (files : Files) (opts : RunOpts) (input : List ℕ) (effect : Effect) → KeepsGenuine files → InterpEffect files opts input effect → InterpsInFull files opts input effect }
 {
+    genuine_objects_are_seen();
     genuine_objects_give_the_full_build();
 }

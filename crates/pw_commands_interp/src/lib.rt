@@ -5,5 +5,6 @@ mod answers;
 mod interpreting;
 pub mod laws;
 mod programs;
+mod telling;
 
 pub use interpreting::interpret_modules;

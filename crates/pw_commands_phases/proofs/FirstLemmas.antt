@@ -16,14 +16,14 @@ use Rattle.pw_summarise.specs.Summarises.{Summarises}
 use Rattle.pw_phase_one.specs.FirstPhase.{Phase, compiled}
 use Rattle.pw_store_modules.specs.FileNames.{text_name}
 use Rattle.pw_top_answer.specs.declared.answer.Answer.{Answer}
-use Rattle.pw_top_answer.specs.declared.answer.Answer.TheVariants.{Done, Refused, RefusedSource, StoreFault, NoMemory, BadFile, Undefined}
+use Rattle.pw_top_answer.specs.declared.answer.Answer.TheVariants.{Done, Refused, RefusedSource, StoreFault, NoMemory, BadFile, Undefined, UndefinedSource}
 use Rattle.pw_top_answer.specs.Effects.{Effect, PutsFiles, answers_alone, puts_files}
 use Rattle.pw_top_answer.specs.Outcomes.{Answers, IsLineDue, StoreCount}
 use Rattle.pw_commands.specs.Needed.{StopsAs, needed_bytes}
 use Rattle.pw_commands.specs.Outcome.{IsFileStop, IsPutAnswer, Obeys}
 use Rattle.pw_commands.proofs.ObeysLemmas.{obeys_fault, obeys_no_memory, obeys_one, put_answers, puts_none}
-use Rattle.pw_commands_phases.specs.First.{AreBytesOf, AreFormBytes, EffectOfPhase, IsForm, IsSumOf, PhaseOneEffect, PhaseOneOver, line_in, line_over, phase_line, two_files}
-use Rattle.pw_commands_phases.specs.Made.{AnswersPhase, AreOfPhase, IsPhaseAnswer, IsTextStop, RefusesPhase, TellsReply, line_of}
+use Rattle.pw_commands_phases.specs.First.{AreBytesOf, AreFormBytes, EffectOfPhase, IsForm, IsSumOf, TextEffect, PhaseOneOver, line_in, line_over, text_line, two_files}
+use Rattle.pw_commands_phases.specs.Made.{AnswersPhase, AreOfPhase, IsTextAnswer, IsTextStop, RefusesPhase, TellsReply, line_of}
 
 -- the laws on which it stands: one optimised form, one file of a flow graph, one summary, one file of it
 pub record Laws : Type 0 where
@@ -108,7 +108,7 @@ pub reply_kind : NoPhaseWants → (name text : List ℕ) (answer : Answer) (line
 reply_kind law name text NoMemory line h = tt
 reply_kind law name text _ line h = phase_kind name text (compiled name text) _ line (law name text) h
 
-pub text_stop_is : (answer : Answer) → IsTextStop answer → IsPhaseAnswer answer
+pub text_stop_is : (answer : Answer) → IsTextStop answer → IsTextAnswer answer
 text_stop_is (Refused name refusal) h = h
 text_stop_is NoMemory h = tt
 text_stop_is _ h = absurd h
@@ -130,10 +130,15 @@ no_operation : (name text : List ℕ) (phase : Phase) (operation : _) (home : Li
 no_operation name text (Ok flow) operation home token line h = h
 no_operation name text (Err other) operation home token line h = let e : Undefined operation home token ≡ Refused name other = h.0 in cc
 
+no_source_operation : (name text : List ℕ) (phase : Phase) (operation : _) (home : List ℕ) (token : ℕ) (line : Option ℕ) → RepliesPhase name text phase (UndefinedSource operation home token) line → ⊥
+no_source_operation name text (Ok flow) operation home token line h = h
+no_source_operation name text (Err other) operation home token line h = let e : UndefinedSource operation home token ≡ Refused name other = h.0 in cc
+
 pub reply_due : (name text : List ℕ) (phase : Phase) (answer : Answer) (line : Option ℕ) → Replies name text phase answer line → IsLineDue (line_in text phase) answer line
 reply_due name text phase (Refused own refusal) line h = phase_due name text phase (Refused own refusal) line h
 reply_due name text phase (RefusedSource own refusal) line h = absurd (no_source name text phase own refusal line h)
 reply_due name text phase (Undefined operation home token) line h = absurd (no_operation name text phase operation home token line h)
+reply_due name text phase (UndefinedSource operation home token) line h = absurd (no_source_operation name text phase operation home token line h)
 reply_due name text phase _ line h = tt
 
 -- ---- answers that name no module
@@ -142,15 +147,16 @@ pub put_line : (due : Option ℕ) (answer : Answer) (line : Option ℕ) → IsPu
 put_line due (Refused own refusal) line h = absurd h
 put_line due (RefusedSource own refusal) line h = absurd h
 put_line due (Undefined operation home token) line h = absurd h
+put_line due (UndefinedSource operation home token) line h = absurd h
 put_line due _ line h = tt
 
-pub put_is_phase : (answer : Answer) → IsPutAnswer answer → IsPhaseAnswer answer
+pub put_is_phase : (answer : Answer) → IsPutAnswer answer → IsTextAnswer answer
 put_is_phase Done h = tt
 put_is_phase StoreFault h = tt
 put_is_phase NoMemory h = tt
 put_is_phase _ h = absurd h
 
-pub file_stop_is : (answer : Answer) → IsFileStop answer → IsPhaseAnswer answer
+pub file_stop_is : (answer : Answer) → IsFileStop answer → IsTextAnswer answer
 file_stop_is StoreFault h = tt
 file_stop_is NoMemory h = tt
 file_stop_is (BadFile name at) h = tt
@@ -160,11 +166,12 @@ stop_line : (due : Option ℕ) (answer : Answer) (line : Option ℕ) → IsFileS
 stop_line due (Refused own refusal) line h = absurd h
 stop_line due (RefusedSource own refusal) line h = absurd h
 stop_line due (Undefined operation home token) line h = absurd h
+stop_line due (UndefinedSource operation home token) line h = absurd h
 stop_line due _ line h = tt
 
-pub file_stop_line : (first : Option Told) (name : List ℕ) (answer : Answer) (line : Option ℕ) → IsFileStop answer → IfSome first (λ t. IsLineDue (phase_line t.files name) answer line)
+pub file_stop_line : (first : Option Told) (name : List ℕ) (answer : Answer) (line : Option ℕ) → IsFileStop answer → IfSome first (λ t. IsLineDue (text_line t.files name) answer line)
 file_stop_line None name answer line h = tt
-file_stop_line (Some t) name answer line h = stop_line (phase_line t.files name) answer line h
+file_stop_line (Some t) name answer line h = stop_line (text_line t.files name) answer line h
 
 -- ---- over the text that is needed
 
@@ -188,22 +195,22 @@ over_stopped name o wanted _ told new input k h e = stopped_by name o wanted _ t
 
 -- the text is absent, or was not read
 pub obeys_stopped : (first new : Option Told) (name : List ℕ) (o : Bool) (answer : Answer) → IfSome first (λ t. StopsAs answer (needed_bytes t.files (text_name name))) → Keeps first new → IsFileStop answer
-    → IfSome first (λ t. (input : List ℕ) → Obeys (PhaseOneEffect t.files name o input) answer t new)
+    → IfSome first (λ t. (input : List ℕ) → Obeys (TextEffect t.files name o input) answer t new)
 obeys_stopped None new name o answer h same k = tt
 obeys_stopped (Some told) new name o answer h same k = λ input. over_stopped name o (needed_bytes told.files (text_name name)) answer told new input k h same
 
 -- it was read
 pub obeys_text : (first now new : Option Told) (name : List ℕ) (o : Bool) (text : List ℕ) (answer : Answer) → IfSome first (λ t. needed_bytes t.files (text_name name) ≡ Ok text) → Keeps first now
-    → IfSome now (λ t. (input : List ℕ) → Obeys (EffectOfPhase name o (compiled name text) input) answer t new) → IfSome first (λ t. (input : List ℕ) → Obeys (PhaseOneEffect t.files name o input) answer t new)
+    → IfSome now (λ t. (input : List ℕ) → Obeys (EffectOfPhase name o (compiled name text) input) answer t new) → IfSome first (λ t. (input : List ℕ) → Obeys (TextEffect t.files name o input) answer t new)
 obeys_text None now new name o text answer e same h = tt
 obeys_text (Some told) now new name o text answer e same h =
     let P : Option Told → Type 0 = λ held. IfSome held (λ t. (input : List ℕ) → Obeys (EffectOfPhase name o (compiled name text) input) answer t new) in
     λ input. subst (λ (w : Result (List ℕ) Answer). Obeys (PhaseOneOver name o w input) answer told new) (sym e) (subst P same h input)
 
-pub text_line : (first : Option Told) (name text : List ℕ) (answer : Answer) (line : Option ℕ) → IfSome first (λ t. needed_bytes t.files (text_name name) ≡ Ok text) → IsLineDue (line_in text (compiled name text)) answer line
-    → IfSome first (λ t. IsLineDue (phase_line t.files name) answer line)
-text_line None name text answer line e h = tt
-text_line (Some t) name text answer line e h = subst (λ (w : Result (List ℕ) Answer). IsLineDue (line_over name w) answer line) (sym e) h
+pub line_of_text : (first : Option Told) (name text : List ℕ) (answer : Answer) (line : Option ℕ) → IfSome first (λ t. needed_bytes t.files (text_name name) ≡ Ok text) → IsLineDue (line_in text (compiled name text)) answer line
+    → IfSome first (λ t. IsLineDue (text_line t.files name) answer line)
+line_of_text None name text answer line e h = tt
+line_of_text (Some t) name text answer line e h = subst (λ (w : Result (List ℕ) Answer). IsLineDue (line_over name w) answer line) (sym e) h
 
 -- ---- inside
 

@@ -1,3 +1,4 @@
 pub mod PutLemmas
 pub mod FirstLemmas
 pub mod SecondLemmas
+pub mod SourceLemmas

@@ -9,7 +9,8 @@ use Rattle.pw_flow.specs.declared.flow.FlowModule.{FlowModule}
 use Rattle.pw_db.specs.declared.database.Directives.{Directives}
 use Rattle.pw_phase_one.specs.FirstPhase.{Phase}
 use Rattle.pw_top_answer.specs.declared.answer.Answer.{Answer}
-use Rattle.pw_top_answer.specs.declared.answer.Answer.TheVariants.{Done, Refused, StoreFault, NoMemory, BadFile}
+use Rattle.pw_top_answer.specs.declared.answer.Answer.TheVariants.{Done, Refused, RefusedSource, Cpp, StoreFault, NoMemory, BadFile}
+use Rattle.pw_commands_cpp.specs.Steps.{IsCppStop}
 use Rattle.pw_commands_phases.specs.declared.texts.MadeFiles.{MadeFiles}
 use Rattle.pw_commands_phases.specs.First.{AreFormBytes}
 use Rattle.pw_commands_phases.specs.Second.{IsFileOfFlow}
@@ -18,10 +19,26 @@ use Rattle.pw_commands_phases.specs.Second.{IsFileOfFlow}
 abbrev pub IsPhaseAnswer : Answer → Type 0
 IsPhaseAnswer Done = Unit {0}
 IsPhaseAnswer (Refused name refusal) = HoldsNoWant refusal
+IsPhaseAnswer (RefusedSource name refusal) = HoldsNoWant refusal
+IsPhaseAnswer (Cpp fault) = IsCppStop (Cpp fault)
 IsPhaseAnswer StoreFault = Unit {0}
 IsPhaseAnswer NoMemory = Unit {0}
 IsPhaseAnswer (BadFile name at) = Unit {0}
 IsPhaseAnswer _ = ⊥
+
+-- those over a text
+abbrev pub IsTextAnswer : Answer → Type 0
+IsTextAnswer Done = Unit {0}
+IsTextAnswer (Refused name refusal) = HoldsNoWant refusal
+IsTextAnswer StoreFault = Unit {0}
+IsTextAnswer NoMemory = Unit {0}
+IsTextAnswer (BadFile name at) = Unit {0}
+IsTextAnswer _ = ⊥
+
+-- what is told of a C source's output in the place of an answer over a text
+abbrev pub source_answer : Answer → Answer
+source_answer (Refused name refusal) = RefusedSource name refusal
+source_answer answer = answer
 
 -- those of a text that was read and comes to no files
 abbrev pub IsTextStop : Answer → Type 0

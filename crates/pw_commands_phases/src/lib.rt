@@ -4,7 +4,8 @@
 
 mod files;
 mod flows;
+mod sources;
 mod texts;
 
 pub use flows::compile_flow;
-pub use texts::compile_text;
+pub use sources::compile_text;

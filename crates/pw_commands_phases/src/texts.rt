@@ -1,4 +1,4 @@
-//! The command `phase1`.
+//! The first phase over the text of a module.
 
 ghost use Rattle.std.specs.Prelude.{◌≡◌, ℕ, List, true, IfErr, IfOk, IfSome};
 ghost use Rattle.pw_top_answer.specs.Effects.{PutsFiles};
@@ -8,8 +8,8 @@ ghost use Rattle.pw_store_modules.specs.Modules.{is_module_name};
 ghost use Rattle.pw_phase_one.specs.FirstPhase.{compiled};
 ghost use Rattle.pw_commands.specs.Others.{KeepsOthers};
 ghost use Rattle.pw_commands.specs.Outcome.{IsPutAnswer, Obeys};
-ghost use Rattle.pw_commands_phases.specs.First.{AreBytesOf, AreFormBytes, EffectOfPhase, IsForm, IsSumOf, PhaseOneEffect, line_in, phase_line, phase_one_puts, two_files};
-ghost use Rattle.pw_commands_phases.specs.Made.{IsPhaseAnswer, MakesOfPhase, TellsError, TellsReply, line_of};
+ghost use Rattle.pw_commands_phases.specs.First.{AreBytesOf, AreFormBytes, EffectOfPhase, IsForm, IsSumOf, TextEffect, line_in, phase_one_puts, text_line, two_files};
+ghost use Rattle.pw_commands_phases.specs.Made.{IsTextAnswer, MakesOfPhase, TellsError, TellsReply, line_of};
 
 use crate::files::{module_bytes, put_bytes};
 use pw_flow::FlowModule;
@@ -152,7 +152,7 @@ fn put_made<S: Store>(alloc: Global, store: &mut S, name: &Name, made: &MadeFile
 }
 
 /// Compiles a module's text that was read.
-fn compile_bytes<S: Store>(
+pub fn compile_bytes<S: Store>(
     alloc: Global,
     store: &mut S,
     name: &Name,
@@ -163,7 +163,7 @@ fn compile_bytes<S: Store>(
     ensures obeys { IfSome (S.told store.old) (λ told. (input : List ℕ) → Obeys (EffectOfPhase name.now optimise (compiled name.now text.now) input) result.answer told (S.told store.new)) }
     ensures others { KeepsOthers (phase_one_puts name.now) result.answer (S.told store.old) (S.told store.new) }
     ensures line { IsLineDue (line_in text.now (compiled name.now text.now)) result.answer result.line }
-    ensures answer { IsPhaseAnswer result.answer }
+    ensures answer { IsTextAnswer result.answer }
     ensures count { StoreCount (S.faults store.old) (S.faults store.new) result.answer }
 {
     flow_graphs_and_files_are_one_to_one();
@@ -180,17 +180,13 @@ fn compile_bytes<S: Store>(
     }
 }
 
-/// Compiles the text of a module into its flow graph and summary.
-///
-/// The flow graph is optimised first, if that is asked for, and the summary is that of the optimised one. The text is read from
-/// `NAME.i`; `NAME.flow` is put, and then `NAME.sum`. The answer is `Done` where both were put;
-/// `Refused` where the text is refused, with the line; `BadFile` where the text is absent; nothing is put then.
-pub fn compile_text<S: Store>(alloc: Global, store: &mut S, name: &Name, optimise: bool) -> Reply
+/// Compiles the text in a module's file.
+pub fn compile_plain<S: Store>(alloc: Global, store: &mut S, name: &Name, optimise: bool) -> Reply
     requires { is_module_name name.now ≡ true }
-    ensures obeys { IfSome (S.told store.old) (λ told. (input : List ℕ) → Obeys (PhaseOneEffect told.files name.now optimise input) result.answer told (S.told store.new)) }
+    ensures obeys { IfSome (S.told store.old) (λ told. (input : List ℕ) → Obeys (TextEffect told.files name.now optimise input) result.answer told (S.told store.new)) }
     ensures others { KeepsOthers (phase_one_puts name.now) result.answer (S.told store.old) (S.told store.new) }
-    ensures line { IfSome (S.told store.old) (λ told. IsLineDue (phase_line told.files name.now) result.answer result.line) }
-    ensures answer { IsPhaseAnswer result.answer }
+    ensures line { IfSome (S.told store.old) (λ told. IsLineDue (text_line told.files name.now) result.answer result.line) }
+    ensures answer { IsTextAnswer result.answer }
     ensures count { StoreCount (S.faults store.old) (S.faults store.new) result.answer }
 {
     match module_bytes(alloc, store, name, TEXT_ENDING) {

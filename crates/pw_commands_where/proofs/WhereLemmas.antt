@@ -8,6 +8,7 @@ use Rattle.pw_image.specs.declared.image.Image.{Image}
 use Rattle.pw_debug.specs.declared.info.FrameInfo.{FrameInfo}
 use Rattle.pw_debug_frames.specs.Frames.{IsMade}
 use Rattle.pw_build_objects.specs.Programs.{WasMade}
+use Rattle.pw_store_modules.specs.Modules.{modules_of}
 use Rattle.pw_top_answer.specs.declared.answer.Answer.{Answer}
 use Rattle.pw_top_answer.specs.declared.answer.Answer.TheVariants as answer
 use Rattle.pw_top_answer.specs.Effects.{Effect, NamedFile, PutsFiles, after_puts, answers_alone}
@@ -16,11 +17,13 @@ use Rattle.pw_commands.specs.Outcome.{IsFound, Obeys}
 use Rattle.pw_commands.proofs.RunLemmas.{Ends, ends_itself}
 use Rattle.pw_build_files.specs.FromBuild.BuildFault.{BuildFault}
 use Rattle.pw_build_files.specs.FromBuild.BuildFault.TheVariants as build
+use Rattle.pw_build_files.specs.FromBuild.Phases.{refused_line}
 use Rattle.pw_build_files.specs.FromBuild.Unbuilt.{Unbuilt}
 use Rattle.pw_build_opts.specs.declared.opts.Opts.{Opts}
 use Rattle.pw_build_opts.specs.declared.opts.RunOpts.{RunOpts}
 use Rattle.pw_build_files.specs.declared.report.Report.{Report}
-use Rattle.pw_build_files.specs.Building.{BuildOutcome, Outcome, puts_of}
+use Rattle.pw_build_files.specs.Building.{Outcome, puts_of}
+use Rattle.pw_build_files.specs.Seen.{IsSeenLine, SeenOutcome}
 use Rattle.pw_build_files.specs.Outcomes.{AnswersFault, AnswersOutcome, FaultFound, IsNoWant, ObeysBuild, fault_answer}
 use Rattle.pw_build_files.proofs.DrivingLemmas.{no_memory_out, refused_outcome}
 use Rattle.pw_go.specs.Going.{HasBuilt, IfMade}
@@ -149,7 +152,7 @@ made _ P p = p
 -- what was built before the look, whatever the input tells
 done_built : (opts : Opts) (report : Report) (a : Answer) (told : Told) (new : Option Told) → IsLookAnswer a → ObeysBuild opts (Ok report) told new → HasBuilt opts a told new
 done_built opts report a told new k b = record {
-  found = made a ((comes : Result Outcome BuildFault) × BuildOutcome told.files opts comes) (Ok b.found.0, b.found.1);
+  found = made a ((comes : Result Outcome BuildFault) × SeenOutcome told.files opts comes) (Ok b.found.0, b.found.1);
   answers = λ comes h. subst (λ (x : Result Outcome BuildFault). AnswersOutcome x a) (sym (b.answers comes h).1) (no_refusal a k);
   puts = λ comes h. all_put (puts_of comes) a told new k (b.puts comes h);
 }
@@ -158,12 +161,16 @@ pub look_built_so : (told new : Option Told) (opts : Opts) (report : Report) (a 
 look_built_so None new opts report a k b = tt
 look_built_so (Some t) new opts report a k b = done_built opts report a t new k b
 
-pub look_line : (due : Files → Option ℕ) (told : Option Told) (a : Answer) → IsLookAnswer a → IfSome told (λ t. IsLineDue (due t.files) a None)
-look_line due None a k = tt
-look_line due (Some t) (answer.Refused name refusal) k = absurd k
-look_line due (Some t) (answer.RefusedSource name refusal) k = absurd k
-look_line due (Some t) (answer.Undefined operation home token) k = absurd k
-look_line due (Some t) _ k = tt
+look_due : (due : Option ℕ) (a : Answer) → IsLookAnswer a → IsLineDue due a None
+look_due due (answer.Refused name refusal) k = absurd k
+look_due due (answer.RefusedSource name refusal) k = absurd k
+look_due due (answer.Undefined operation home token) k = absurd k
+look_due due (answer.UndefinedSource operation home token) k = absurd k
+look_due due _ k = tt
+
+pub look_line : (told : Option Told) (a : Answer) → IsLookAnswer a → IfSome told (λ t. IsSeenLine t.files a None)
+look_line None a k = tt
+look_line (Some t) a k = λ shown is. look_due (refused_line (modules_of shown)) a k
 
 pub look_is_where : (a : Answer) → IsLookAnswer a → IsWhereAnswer a
 look_is_where answer.Usage k = absurd k
@@ -174,6 +181,7 @@ look_is_where (answer.LinkRefused fault) k = absurd k
 look_is_where (answer.BadFile name at) k = absurd k
 look_is_where (answer.BadScript at) k = absurd k
 look_is_where (answer.Undefined operation home token) k = absurd k
+look_is_where (answer.UndefinedSource operation home token) k = absurd k
 look_is_where _ k = tt
 
 pub look_stores : (before now : ℕ) (a : Answer) → IsLookAnswer a → now ≡ before → StoreCount before now a
@@ -256,7 +264,7 @@ fault_rest (Some t) new (Some input) opts k unbuilt a is b =
     λ e d. subst (λ (x : Answer). LeavesInput e.rest input x (Some input)) (sym is) (refused_rest unbuilt.fault opts.budget k input d.0 e (b.answers d.0 d.1) d.2)
 
 -- what was built, whatever the input tells
-fault_made : (files : Files) (opts : Opts) (fault : BuildFault) → FaultFound files opts fault → IfMade (fault_answer fault) ((comes : Result Outcome BuildFault) × BuildOutcome files opts comes)
+fault_made : (files : Files) (opts : Opts) (fault : BuildFault) → FaultFound files opts fault → IfMade (fault_answer fault) ((comes : Result Outcome BuildFault) × SeenOutcome files opts comes)
 fault_made files opts (build.Refused name refusal) h = (Err (build.Refused name refusal), h)
 fault_made files opts (build.LinkRefused fault) h = (Err (build.LinkRefused fault), h)
 fault_made files opts build.StoreFault h = tt

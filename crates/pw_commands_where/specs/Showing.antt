@@ -1,5 +1,5 @@
 -- What `where` comes to: a build over the files of a store, and a look at a call in the run of its image over an input.
-use Rattle.std.specs.Prelude.{◌≡◌, ◌≢◌, ℕ, List, [], Option, Some, Result, Ok, Err}
+use Rattle.std.specs.Prelude.{◌≡◌, ◌≢◌, ℕ, List, [], Some, Result, Ok, Err}
 use Rattle.pw_value.specs.declared.fault.LinkFault.TheVariants as link
 use Rattle.pw_io.specs.Files.{Files}
 use Rattle.pw_front_end.specs.Fronts.{HoldsNoWant}
@@ -12,11 +12,12 @@ use Rattle.pw_debug_frames.specs.Frames.{AreFrames}
 use Rattle.pw_where.specs.Calls.{Passes}
 use Rattle.pw_where.specs.Looks.{ShowsAt, entries_in, start_over}
 use Rattle.pw_top_answer.specs.declared.answer.Answer.{Answer}
-use Rattle.pw_top_answer.specs.declared.answer.Answer.TheVariants.{Done, Usage, Refused, RefusedSource, Cpp, LinkRefused, BadFile, BadScript, NoFrames, Undefined}
+use Rattle.pw_top_answer.specs.declared.answer.Answer.TheVariants.{Done, Usage, Refused, RefusedSource, Cpp, LinkRefused, BadFile, BadScript, NoFrames, Undefined, UndefinedSource}
 use Rattle.pw_top_answer.specs.Effects.{Effect, NamedFile, answers_alone}
 use Rattle.pw_commands.specs.MachineRun.{run_answer, run_rest}
 use Rattle.pw_build_files.specs.FromBuild.BuildFault.{BuildFault}
-use Rattle.pw_build_files.specs.Building.{BuildOutcome, Outcome}
+use Rattle.pw_build_files.specs.Building.{Outcome}
+use Rattle.pw_build_files.specs.Seen.{SeenOutcome}
 use Rattle.pw_build_files.specs.Outcomes.{fault_answer}
 use Rattle.pw_build_opts.specs.declared.opts.RunOpts.{RunOpts}
 
@@ -43,7 +44,7 @@ WhereOver budget k input (Err fault) effect = effect ≡ answers_alone (fault_an
 -- `where` over a store's files and an input
 abbrev pub WhereEffect : Files → RunOpts → ℕ → List ℕ → Effect → Type 0
 WhereEffect files opts k input effect =
-    (comes : Result Outcome BuildFault) × BuildOutcome files opts.build comes × WhereOver opts.budget k input comes effect
+    (comes : Result Outcome BuildFault) × SeenOutcome files opts.build comes × WhereOver opts.budget k input comes effect
 
 -- the answers of the command, whose refusals are none for want of memory
 abbrev pub IsWhereAnswer : Answer → Type 0
@@ -55,4 +56,5 @@ IsWhereAnswer (LinkRefused fault) = fault ≢ link.NoMemory
 IsWhereAnswer (BadFile name at) = ⊥
 IsWhereAnswer (BadScript at) = ⊥
 IsWhereAnswer (Undefined operation name token) = ⊥
+IsWhereAnswer (UndefinedSource operation name token) = ⊥
 IsWhereAnswer _ = Unit {0}

@@ -4,7 +4,7 @@ use Rattle.pw_object.specs.declared.object.Object.{Object}
 use Rattle.pw_where.specs.declared.looking.Look.{Look}
 use Rattle.pw_where.specs.declared.looking.Look.TheVariants.{Lines, LostAt, StoppedAs}
 use Rattle.pw_top_answer.specs.declared.answer.Answer.{Answer}
-use Rattle.pw_top_answer.specs.declared.answer.Answer.TheVariants.{Usage, Refused, RefusedSource, Cpp, LinkRefused, StoreFault, BadFile, BadScript, NoFrames, Undefined}
+use Rattle.pw_top_answer.specs.declared.answer.Answer.TheVariants.{Usage, Refused, RefusedSource, Cpp, LinkRefused, StoreFault, BadFile, BadScript, NoFrames, Undefined, UndefinedSource}
 use Rattle.pw_top_answer.specs.Effects.{Effect}
 use Rattle.pw_top_answer.specs.Outcomes.{Answers, IsPrintAnswer, LeavesInput, PutsOut}
 use Rattle.pw_commands.specs.MachineRun.{stop_answer}
@@ -33,6 +33,7 @@ IsLookAnswer StoreFault = ⊥
 IsLookAnswer (BadFile name at) = ⊥
 IsLookAnswer (BadScript at) = ⊥
 IsLookAnswer (Undefined operation home token) = ⊥
+IsLookAnswer (UndefinedSource operation home token) = ⊥
 IsLookAnswer _ = Unit {0}
 
 -- The look at the image in this file was answered and put out, and its rest of the input left.

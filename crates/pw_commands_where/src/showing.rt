@@ -1,18 +1,17 @@
 //! The command `where`.
 
-ghost use Rattle.std.specs.Prelude.{◌≡◌, ◌≢◌, ◌<◌, IfSome};
+ghost use Rattle.std.specs.Prelude.{◌≢◌, ◌<◌, IfSome};
 ghost use Rattle.std.specs.List.{AllByRecursion};
-ghost use Rattle.pw_store_modules.specs.Modules.{modules_of};
 ghost use Rattle.pw_debug.specs.Knowing.{IsFrame};
 ghost use Rattle.pw_debug_frames.specs.Frames.{AreFrames};
 ghost use Rattle.pw_top_answer.specs.Effects.{Effect};
-ghost use Rattle.pw_top_answer.specs.Outcomes.{InputCount, IsLineDue, LeavesInput, LeavesStreams, OutputCount, PutsOut, StoreCount};
+ghost use Rattle.pw_top_answer.specs.Outcomes.{InputCount, LeavesInput, LeavesStreams, OutputCount, PutsOut, StoreCount};
 ghost use Rattle.pw_commands.specs.Outcome.{Obeys};
 ghost use Rattle.pw_build_objects.specs.Programs.{WasMade};
-ghost use Rattle.pw_build_files.specs.FromBuild.Phases.{refused_line};
 ghost use Rattle.pw_build_files.specs.Driving.{KeepsUnput};
 ghost use Rattle.pw_build_files.specs.Genuine.{KeepsGenuine};
 ghost use Rattle.pw_build_files.specs.Outcomes.{AreOpts, HoldsImage};
+ghost use Rattle.pw_build_files.specs.Seen.{IsSeenLine};
 ghost use Rattle.pw_go.specs.Going.{HasBuilt};
 ghost use Rattle.pw_commands_where.specs.Showing.{IsWhereAnswer, WhereEffect};
 ghost use Rattle.pw_commands_where.specs.Steps.{IsLookAnswer, LooksAtFile, PutsLook, TellsLook};
@@ -140,7 +139,7 @@ pub fn show_call<S: Store, I: Source, O: Sink>(
     ensures built { IfSome (S.told store.old) (λ told. HasBuilt opts.now.build result.answer told (S.told store.new)) }
     ensures others { IfSome (S.told store.old) (λ told. KeepsUnput result.answer told (S.told store.new)) }
     ensures genuine { IfSome (S.told store.old) (λ told. KeepsGenuine told.files → IfSome (S.told store.new) (λ now. KeepsGenuine now.files)) }
-    ensures line { IfSome (S.told store.old) (λ told. IsLineDue (refused_line (modules_of told.files)) result.answer result.line) }
+    ensures line { IfSome (S.told store.old) (λ told. IsSeenLine told.files result.answer result.line) }
     ensures answer { IsWhereAnswer result.answer }
     ensures store { StoreCount (S.faults store.old) (S.faults store.new) result.answer }
     ensures read { InputCount (I.faults input.old) (I.faults input.new) result.answer }

@@ -9,16 +9,19 @@ use Rattle.pw_top_answer.specs.declared.answer.Answer.{Answer}
 use Rattle.pw_top_answer.specs.declared.answer.Answer.TheVariants as answer
 use Rattle.pw_top_answer.specs.Effects.{Effect, PutsFiles, NamedFile, after_puts, answers_alone}
 use Rattle.pw_top_answer.specs.Outcomes.{Answers, InputCount, IsLineDue, IsNoRefusal, LeavesInput, LeavesStreams, PutsOut, StoreCount, WasReadInPart}
+use Rattle.pw_store_modules.specs.Modules.{modules_of}
 use Rattle.pw_commands.specs.MachineRun.{IsRunAnswer, start_state}
 use Rattle.pw_commands.specs.Outcome.{IsFound, Obeys}
 use Rattle.pw_commands.proofs.RunLemmas.{Ends, ends_itself, run_ends}
 use Rattle.pw_build_files.specs.FromBuild.BuildFault.{BuildFault}
 use Rattle.pw_build_files.specs.FromBuild.BuildFault.TheVariants as build
+use Rattle.pw_build_files.specs.FromBuild.Phases.{refused_line}
 use Rattle.pw_build_files.specs.FromBuild.Unbuilt.{Unbuilt}
 use Rattle.pw_build_opts.specs.declared.opts.Opts.{Opts}
 use Rattle.pw_build_opts.specs.declared.opts.RunOpts.{RunOpts}
 use Rattle.pw_build_files.specs.declared.report.Report.{Report}
-use Rattle.pw_build_files.specs.Building.{BuildOutcome, Outcome, puts_of}
+use Rattle.pw_build_files.specs.Building.{Outcome, puts_of}
+use Rattle.pw_build_files.specs.Seen.{IsSeenLine, SeenOutcome}
 use Rattle.pw_build_files.specs.Outcomes.{AnswersFault, AnswersOutcome, FaultFound, HoldsImage, IsNoWant, ObeysBuild, fault_answer}
 use Rattle.pw_build_files.proofs.DrivingLemmas.{refused_outcome}
 use Rattle.pw_go.specs.Going.{GoEffect, GoOver, HasBuilt, IfMade, IsGoAnswer, RunsImage, ran_behind, run_from}
@@ -113,7 +116,7 @@ made _ P p = p
 -- what was built before the run, whatever the input tells
 done_built : (opts : Opts) (report : Report) (a : Answer) (told : Told) (new : Option Told) → IsRunAnswer a → ObeysBuild opts (Ok report) told new → HasBuilt opts a told new
 done_built opts report a told new k b = record {
-  found = made a ((comes : Result Outcome BuildFault) × BuildOutcome told.files opts comes) (Ok b.found.0, b.found.1);
+  found = made a ((comes : Result Outcome BuildFault) × SeenOutcome told.files opts comes) (Ok b.found.0, b.found.1);
   answers = λ comes h. subst (λ (x : Result Outcome BuildFault). AnswersOutcome x a) (sym (b.answers comes h).1) (no_refusal a k);
   puts = λ comes h. all_put (puts_of comes) a told new k (b.puts comes h);
 }
@@ -122,12 +125,16 @@ pub run_built_so : (told new : Option Told) (opts : Opts) (report : Report) (a :
 run_built_so None new opts report a k b = tt
 run_built_so (Some t) new opts report a k b = done_built opts report a t new k b
 
-pub run_line : (due : Files → Option ℕ) (told : Option Told) (a : Answer) → IsRunAnswer a → IfSome told (λ t. IsLineDue (due t.files) a None)
-run_line due None a k = tt
-run_line due (Some t) (answer.Refused name refusal) k = absurd k
-run_line due (Some t) (answer.RefusedSource name refusal) k = absurd k
-run_line due (Some t) (answer.Undefined operation home token) k = absurd k
-run_line due (Some t) _ k = tt
+run_due : (due : Option ℕ) (a : Answer) → IsRunAnswer a → IsLineDue due a None
+run_due due (answer.Refused name refusal) k = absurd k
+run_due due (answer.RefusedSource name refusal) k = absurd k
+run_due due (answer.Undefined operation home token) k = absurd k
+run_due due (answer.UndefinedSource operation home token) k = absurd k
+run_due due _ k = tt
+
+pub run_line : (told : Option Told) (a : Answer) → IsRunAnswer a → IfSome told (λ t. IsSeenLine t.files a None)
+run_line None a k = tt
+run_line (Some t) a k = λ shown is. run_due (refused_line (modules_of shown)) a k
 
 pub run_is : (a : Answer) → IsRunAnswer a → IsGoAnswer a
 run_is answer.Done k = absurd k
@@ -140,6 +147,7 @@ run_is (answer.BadFile name at) k = absurd k
 run_is (answer.BadScript at) k = absurd k
 run_is (answer.NoFrames address) k = absurd k
 run_is (answer.Undefined operation home token) k = absurd k
+run_is (answer.UndefinedSource operation home token) k = absurd k
 run_is _ k = tt
 
 pub run_stores : (before now : ℕ) (a : Answer) → IsRunAnswer a → now ≡ before → StoreCount before now a
@@ -222,7 +230,7 @@ fault_rest (Some t) new (Some input) opts unbuilt a is b =
     λ e d. subst (λ (x : Answer). LeavesInput e.rest input x (Some input)) (sym is) (refused_rest unbuilt.fault opts.budget input d.0 e (b.answers d.0 d.1) d.2)
 
 -- what was built, whatever the input tells
-fault_made : (files : Files) (opts : Opts) (fault : BuildFault) → FaultFound files opts fault → IfMade (fault_answer fault) ((comes : Result Outcome BuildFault) × BuildOutcome files opts comes)
+fault_made : (files : Files) (opts : Opts) (fault : BuildFault) → FaultFound files opts fault → IfMade (fault_answer fault) ((comes : Result Outcome BuildFault) × SeenOutcome files opts comes)
 fault_made files opts (build.Refused name refusal) h = (Err (build.Refused name refusal), h)
 fault_made files opts (build.LinkRefused fault) h = (Err (build.LinkRefused fault), h)
 fault_made files opts build.StoreFault h = tt

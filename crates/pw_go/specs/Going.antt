@@ -8,12 +8,13 @@ use Rattle.pw_image.specs.Image.{Contents, IsImageFile}
 use Rattle.pw_machine.specs.Run.{Progress, run_of}
 use Rattle.pw_machine.specs.Start.{image_start}
 use Rattle.pw_top_answer.specs.declared.answer.Answer.{Answer}
-use Rattle.pw_top_answer.specs.declared.answer.Answer.TheVariants.{Done, Usage, Refused, LinkRefused, StoreFault, NoMemory, BadFile, BadScript, NoFrames, RefusedSource, Cpp, Undefined}
+use Rattle.pw_top_answer.specs.declared.answer.Answer.TheVariants.{Done, Usage, Refused, LinkRefused, StoreFault, NoMemory, BadFile, BadScript, NoFrames, RefusedSource, Cpp, Undefined, UndefinedSource}
 use Rattle.pw_top_answer.specs.Effects.{Effect, NamedFile, PutsFiles, answers_alone}
 use Rattle.pw_top_answer.specs.Outcomes.{Answers, LeavesInput, PutsOut}
 use Rattle.pw_commands.specs.MachineRun.{run_answer, run_output, run_rest, start_state}
 use Rattle.pw_build_files.specs.FromBuild.BuildFault.{BuildFault}
-use Rattle.pw_build_files.specs.Building.{BuildOutcome, Outcome, puts_of}
+use Rattle.pw_build_files.specs.Building.{Outcome, puts_of}
+use Rattle.pw_build_files.specs.Seen.{SeenOutcome}
 use Rattle.pw_build_files.specs.Outcomes.{AnswersOutcome, fault_answer}
 use Rattle.pw_build_opts.specs.declared.opts.Opts.{Opts}
 use Rattle.pw_build_opts.specs.declared.opts.RunOpts.{RunOpts}
@@ -34,7 +35,7 @@ GoOver budget input (Err fault) effect = effect ≡ answers_alone (fault_answer 
 -- `go` over a store's files and an input
 abbrev pub GoEffect : Files → RunOpts → List ℕ → Effect → Type 0
 GoEffect files opts input effect =
-    (comes : Result Outcome BuildFault) × BuildOutcome files opts.build comes × GoOver opts.budget input comes effect
+    (comes : Result Outcome BuildFault) × SeenOutcome files opts.build comes × GoOver opts.budget input comes effect
 
 -- ---- the build, whatever the input tells
 
@@ -48,9 +49,9 @@ IfMade _ P = P
 -- comes to something, unless the store failed or memory ran out; a refusal to which it comes is the answer, and one that comes to
 -- a program is not refused; and its files were put, in order.
 pub record HasBuilt (opts : Opts) (answer : Answer) (told : Told) (new : Option Told) : Type 0 where
-  pub found : IfMade answer ((comes : Result Outcome BuildFault) × BuildOutcome told.files opts comes)
-  pub answers : (comes : Result Outcome BuildFault) → BuildOutcome told.files opts comes → AnswersOutcome comes answer
-  pub puts : (comes : Result Outcome BuildFault) → BuildOutcome told.files opts comes → PutsFiles (puts_of comes) answer told new
+  pub found : IfMade answer ((comes : Result Outcome BuildFault) × SeenOutcome told.files opts comes)
+  pub answers : (comes : Result Outcome BuildFault) → SeenOutcome told.files opts comes → AnswersOutcome comes answer
+  pub puts : (comes : Result Outcome BuildFault) → SeenOutcome told.files opts comes → PutsFiles (puts_of comes) answer told new
 
 -- ---- answers
 
@@ -66,6 +67,7 @@ IsGoAnswer (BadFile name at) = ⊥
 IsGoAnswer (BadScript at) = ⊥
 IsGoAnswer (NoFrames address) = ⊥
 IsGoAnswer (Undefined operation name token) = ⊥
+IsGoAnswer (UndefinedSource operation name token) = ⊥
 IsGoAnswer _ = Unit {0}
 
 -- ---- inside

@@ -1,14 +1,13 @@
 //! The command `go`.
 
-ghost use Rattle.std.specs.Prelude.{◌≡◌, ℕ, List, Option, IfSome};
-ghost use Rattle.pw_store_modules.specs.Modules.{modules_of};
+ghost use Rattle.std.specs.Prelude.{IfSome};
 ghost use Rattle.pw_top_answer.specs.Effects.{Effect};
-ghost use Rattle.pw_top_answer.specs.Outcomes.{InputCount, IsLineDue, LeavesInput, LeavesStreams, OutputCount, PutsOut, StoreCount};
+ghost use Rattle.pw_top_answer.specs.Outcomes.{InputCount, LeavesInput, LeavesStreams, OutputCount, PutsOut, StoreCount};
 ghost use Rattle.pw_commands.specs.MachineRun.{IsRunAnswer};
 ghost use Rattle.pw_commands.specs.Outcome.{Obeys};
-ghost use Rattle.pw_build_files.specs.FromBuild.Phases.{refused_line};
 ghost use Rattle.pw_build_files.specs.Driving.{KeepsUnput};
 ghost use Rattle.pw_build_files.specs.Genuine.{KeepsGenuine};
+ghost use Rattle.pw_build_files.specs.Seen.{IsSeenLine};
 ghost use Rattle.pw_build_files.specs.Outcomes.{AreOpts, HoldsImage};
 ghost use Rattle.pw_go.specs.Going.{GoEffect, HasBuilt, IsGoAnswer, RunsImage};
 
@@ -63,7 +62,7 @@ pub fn go<S: Store, I: Source, O: Sink>(
     ensures built { IfSome (S.told store.old) (λ told. HasBuilt opts.now.build result.answer told (S.told store.new)) }
     ensures others { IfSome (S.told store.old) (λ told. KeepsUnput result.answer told (S.told store.new)) }
     ensures genuine { IfSome (S.told store.old) (λ told. KeepsGenuine told.files → IfSome (S.told store.new) (λ now. KeepsGenuine now.files)) }
-    ensures line { IfSome (S.told store.old) (λ told. IsLineDue (refused_line (modules_of told.files)) result.answer result.line) }
+    ensures line { IfSome (S.told store.old) (λ told. IsSeenLine told.files result.answer result.line) }
     ensures answer { IsGoAnswer result.answer }
     ensures store { StoreCount (S.faults store.old) (S.faults store.new) result.answer }
     ensures read { InputCount (I.faults input.old) (I.faults input.new) result.answer }

@@ -22,6 +22,7 @@ use Rattle.pw_build_opts.specs.declared.opts.RunOpts.{RunOpts}
 use Rattle.pw_session.specs.Bench.{BenchEffect, bench_files, bench_modules, made_files}
 use Rattle.pw_law_session.specs.Full.{BenchBuildsInFull}
 use Rattle.pw_law_session.proofs.FullLemmas.{opened}
+use Rattle.pw_law_session.proofs.SeenLemmas.{Beside, keeps_seen}
 use Rattle.pw_build_opts.specs.declared.opts.Opts.{Opts}
 
 -- ---- names of texts and of objects' files
@@ -81,9 +82,10 @@ made_genuine insertion number count name object spelled e =
     none_there insertion (reverse (generated number count)) name (turned (generated number count) (all_texts number count)) in
     absurd (none_is object (sym (ap (λ (bytes : Option (List ℕ)). object_in (counted bytes)) none) ∙ e))
 
-pub bench_in_full : ((files : Files) (opts : Opts) (comes : Result Outcome BuildFault) → AreOpts opts → KeepsGenuine files → BuildOutcome files opts comes → BuildsAndMeans (module_map files) opts (image_of comes))
+pub bench_in_full : Beside → ((files : Files) (opts : Opts) (comes : Result Outcome BuildFault) → AreOpts opts → KeepsGenuine files → BuildOutcome files opts comes → BuildsAndMeans (module_map files) opts (image_of comes))
     → ((files : Files) (name bytes other : List ℕ) → other ≢ name → finite.get (finite.insert files name bytes) other ≡ finite.get files other)
     → (number : ℕ) (opts : RunOpts) (input : List ℕ) (effect : Effect) → AreOpts opts.build → BenchEffect number opts input effect → BenchBuildsInFull number opts input effect
-bench_in_full full insertion number opts input effect are h =
+bench_in_full beside full insertion number opts input effect are h =
     let keeps : KeepsGenuine (bench_files number) = made_genuine insertion number bench_modules in
-    (h.0, full (bench_files number) opts.build h.0 are keeps (opened opts (bench_files number) h.0 h.1), h.2)
+    let seen = opened opts (bench_files number) h.0 h.1 in
+    (h.0, seen.0, seen.1, full seen.0 opts.build h.0 are (keeps_seen beside (bench_files number) seen.0 seen.1 keeps) seen.2, h.2)

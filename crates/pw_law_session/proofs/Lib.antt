@@ -3,3 +3,4 @@ pub mod FullLemmas
 pub mod BenchLemmas
 pub mod WholeLemmas
 pub mod HistoryLemmas
+pub mod SeenLemmas

@@ -1,17 +1,17 @@
--- The lines of a script name the files of modules alone.
-use Rattle.std.proofs.Common.{◌≡◌, ℕ, zero, suc, ◌+◌, ◌-◌, Bool, true, false, cond, List, codes, length, Option, Some, None, refl}
+-- The lines of a script name the files of texts alone.
+use Rattle.std.proofs.Common.{◌≡◌, ℕ, zero, suc, ◌+◌, ◌-◌, Bool, true, false, cond, ◌&&◌, List, codes, length, Option, Some, None, refl}
 use Rattle.std.specs.Option.{option_map_or, option_map, option_and_then}
 use Rattle.std.specs.List.{AllByRecursion}
-use Rattle.std.specs.Str.{bytes_eq}
-use Rattle.pw_store_modules.specs.Modules.{is_module_file}
-use Rattle.pw_session_script.specs.Script.{Command, PutFile, RemoveFile, BuildAll, RunWith, LineValue, NamesModule, by_command, by_line, command_in, command_of, content_of, file_in, first_line, first_word, line_limit, line_within, long_command, put_in, put_limit, run_limit, with_content, words_behind}
+use Rattle.std.specs.Str.{bytes_eq, is_utf8}
+use Rattle.pw_store_texts.specs.Names.{is_text_file}
+use Rattle.pw_session_script.specs.Script.{Command, PutFile, RemoveFile, BuildAll, RunWith, LineValue, NamesText, by_command, by_line, command_in, command_of, content_of, file_in, first_line, first_word, line_limit, line_within, long_command, put_in, put_limit, run_limit, with_content, words_behind}
 use Rattle.pw_top_words.specs.CommandLine.{number_in}
 use Rattle.pw_session.specs.Session.{script_lines_from, lines_limit, script_lines, no_line, with_line}
 
--- the command names a module's file
+-- the command names a text's file
 abbrev NamesFile : Command → Type 0
-NamesFile (PutFile file count) = is_module_file file ≡ true
-NamesFile (RemoveFile file) = is_module_file file ≡ true
+NamesFile (PutFile file count) = is_text_file file ≡ true
+NamesFile (RemoveFile file) = is_text_file file ≡ true
 NamesFile BuildAll = Unit {0}
 NamesFile (RunWith count) = Unit {0}
 
@@ -21,14 +21,15 @@ IfNames (Some command) = NamesFile command
 
 abbrev IsFileOf : Option (List ℕ) → Type 0
 IsFileOf None = Unit {0}
-IsFileOf (Some file) = is_module_file file ≡ true
+IsFileOf (Some file) = is_text_file file ≡ true
+
+file_by : (word : List ℕ) (a b : Bool) → is_text_file word ≡ a → IsFileOf (cond (a && b) (Some word) None)
+file_by word true true e = e
+file_by word true false e = tt
+file_by word false b e = tt
 
 file_names : (word : List ℕ) → IsFileOf (file_in word)
-file_names word =
-    elim (is_module_file word) as (λ b. is_module_file word ≡ b → IsFileOf (cond b (Some word) None)) [
-      | true ↦ λ e. e
-      | false ↦ λ e. tt
-    ] refl
+file_names word = file_by word (is_text_file word) (is_utf8 word) refl
 
 remove_names : (file : Option (List ℕ)) → IsFileOf file → IfNames (option_map RemoveFile file)
 remove_names None h = tt
@@ -38,7 +39,7 @@ run_names : (count : Option ℕ) → IfNames (option_map RunWith count)
 run_names None = tt
 run_names (Some count) = tt
 
-count_names : (file : List ℕ) (count : Option ℕ) → is_module_file file ≡ true → IfNames (option_map (PutFile file) count)
+count_names : (file : List ℕ) (count : Option ℕ) → is_text_file file ≡ true → IfNames (option_map (PutFile file) count)
 count_names file None h = tt
 count_names file (Some count) h = h
 
@@ -68,9 +69,9 @@ command_names word (Some words) = long_names word words
 
 abbrev IfNamed : Option (LineValue × List ℕ) → Type 0
 IfNamed None = Unit {0}
-IfNamed (Some cut) = NamesModule cut.0
+IfNamed (Some cut) = NamesText cut.0
 
-put_named : (file : List ℕ) (cut : Option (List ℕ × List ℕ)) → is_module_file file ≡ true → IfNamed (option_map (λ c. (LineValue.PutText file c.0, c.1)) cut)
+put_named : (file : List ℕ) (cut : Option (List ℕ × List ℕ)) → is_text_file file ≡ true → IfNamed (option_map (λ c. (LineValue.PutText file c.0, c.1)) cut)
 put_named file None h = tt
 put_named file (Some cut) h = h
 
@@ -98,7 +99,7 @@ first_named script = by_line_named (line_within line_limit script)
 -- ---- all lines
 
 abbrev AreNamed : List LineValue → Type 0
-AreNamed lines = AllByRecursion NamesModule lines
+AreNamed lines = AllByRecursion NamesText lines
 
 cut_named : (n offset : ℕ) (script : List ℕ) (cut : Option (LineValue × List ℕ)) → ((at : ℕ) (rest : List ℕ) → AreNamed (script_lines_from n at rest).lines) → IfNamed cut
     → AreNamed (option_map_or (λ c. with_line c.0 (script_lines_from n (offset + (length script - length c.1)) c.1)) cut (no_line offset script)).lines
@@ -110,6 +111,6 @@ unfolding script_lines_from
 lines_named zero offset script = tt
 lines_named (suc n) offset script = cut_named n offset script (first_line script) (λ at rest. lines_named n at rest) (first_named script)
 
-pub script_named : (script : List ℕ) → AllByRecursion NamesModule (script_lines script).lines
+pub script_named : (script : List ℕ) → AllByRecursion NamesText (script_lines script).lines
 unfolding script_lines
 script_named script = lines_named lines_limit 0 script

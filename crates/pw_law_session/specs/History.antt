@@ -1,10 +1,11 @@
--- What happens to a store over time: texts of modules are written and removed, and programs are built.
+-- What happens to a store over time: texts are written and removed, and programs are built.
 use Rattle.std.specs.Prelude.{◌≡◌, ℕ, List, [], ◌∷◌, Result, true}
 use Rattle.pw_io.specs.Files.{Told, after_put, after_remove}
-use Rattle.pw_store_modules.specs.Modules.{is_module_file}
+use Rattle.pw_store_texts.specs.Names.{is_text_file}
 use Rattle.pw_top_answer.specs.Effects.{after_puts}
 use Rattle.pw_session.specs.FromBuild.BuildFault.{BuildFault}
-use Rattle.pw_session.specs.FromBuildFiles.Building.{BuildOutcome, Outcome, puts_of}
+use Rattle.pw_session.specs.FromBuildFiles.Building.{Outcome, puts_of}
+use Rattle.pw_session.specs.FromBuildFiles.Seen.{SeenOutcome}
 use Rattle.pw_session.specs.FromBuildFiles.Outcomes.{AreOpts}
 use Rattle.pw_build_opts.specs.declared.opts.Opts.{Opts}
 use Rattle.pw_law_session.specs.Whole.{IsBuiltInFull}
@@ -21,11 +22,11 @@ behind told (WritesText file text) = after_put told file text
 behind told (RemovesText file) = after_remove told file
 behind told (BuildsAll opts comes) = after_puts told (puts_of comes)
 
--- The file is a module's, and the build comes to that.
+-- The file is a text's, and the build comes to that.
 abbrev pub MayHappen : Told → Action → Type 0
-MayHappen told (WritesText file text) = is_module_file file ≡ true
-MayHappen told (RemovesText file) = is_module_file file ≡ true
-MayHappen told (BuildsAll opts comes) = AreOpts opts × BuildOutcome told.files opts comes
+MayHappen told (WritesText file text) = is_text_file file ≡ true
+MayHappen told (RemovesText file) = is_text_file file ≡ true
+MayHappen told (BuildsAll opts comes) = AreOpts opts × SeenOutcome told.files opts comes
 
 -- they happen one behind another
 abbrev pub Happen : Told → List Action → Type 0

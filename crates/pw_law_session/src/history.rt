@@ -7,9 +7,10 @@ ghost use Rattle.pw_law_session.specs.History.{Action, AreFullBuilds, Happen};
 
 use crate::builds::builds_are_full;
 use pw_io::laws::other_files;
-use pw_session::{builds_leave_genuine_objects, module_texts_are_no_objects};
+use pw_session::{builds_leave_genuine_objects, texts_are_no_objects};
+use pw_store_texts::built_files_are_seen;
 
-/// From a store whose kept objects are genuine on, whatever texts of modules are written and removed and whatever is built, in any
+/// From a store whose kept objects are genuine on, whatever texts are written and removed and whatever is built, in any
 /// order: each build is the full build of the modules as they are then. Its image is that build's, byte for byte, its refusal
 /// that build's, and it leaves that build's database and image.
 pub fn histories_build_in_full()
@@ -17,6 +18,7 @@ pub fn histories_build_in_full()
 {
     builds_are_full();
     builds_leave_genuine_objects();
-    module_texts_are_no_objects();
+    built_files_are_seen();
+    texts_are_no_objects();
     other_files();
 }

@@ -13,8 +13,9 @@ use pw_io::laws::other_files;
 use pw_law_build::a_build_leaves_the_whole_program;
 use pw_law_meaning::images_mean_their_texts;
 use pw_session::{
-    builds_leave_genuine_objects, genuine_objects_give_the_full_image, module_texts_are_no_objects,
+    builds_leave_genuine_objects, genuine_objects_give_the_full_image, texts_are_no_objects,
 };
+use pw_store_texts::built_files_are_seen;
 
 /// Where the kept objects are genuine before a session, each of its builds comes to the image of the full build of the
 /// texts as its lines left them, byte for byte, which means what they mean in C, or to that build's fault; one that is done leaves the database and the image of
@@ -24,10 +25,11 @@ pub fn sessions_build_in_full()
 {
     a_build_leaves_the_whole_program();
     builds_leave_genuine_objects();
+    built_files_are_seen();
     genuine_objects_give_the_full_image();
     images_mean_their_texts();
-    module_texts_are_no_objects();
     other_files();
+    texts_are_no_objects();
 }
 
 /// `bench` builds in full: nothing is kept of the texts that it makes, so its image is that of their full build, byte for
@@ -35,6 +37,7 @@ pub fn sessions_build_in_full()
 pub fn bench_builds_in_full()
     ensures { (number : ℕ) (opts : RunOpts) (input : List ℕ) (effect : Effect) → AreOpts opts.build → BenchEffect number opts input effect → BenchBuildsInFull number opts input effect }
 {
+    built_files_are_seen();
     genuine_objects_give_the_full_image();
     images_mean_their_texts();
     other_files();

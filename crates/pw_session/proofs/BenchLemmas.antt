@@ -14,9 +14,10 @@ use Rattle.pw_machine.specs.Start.{image_start}
 use Rattle.pw_commands.specs.MachineRun.{run_answer}
 use Rattle.pw_store_modules.specs.Modules.{modules_of}
 use Rattle.pw_top_answer.specs.declared.answer.Answer.{Answer}
-use Rattle.pw_top_answer.specs.declared.answer.Answer.TheVariants.{Done, Usage, Refused, RefusedSource, Cpp, LinkRefused, WriteFault, StoreFault, NoMemory, BadFile, Undefined}
+use Rattle.pw_top_answer.specs.declared.answer.Answer.TheVariants.{Done, Usage, Refused, RefusedSource, Cpp, LinkRefused, WriteFault, StoreFault, NoMemory, BadFile, Undefined, UndefinedSource}
 use Rattle.pw_top_answer.specs.Effects.{Effect, answers_alone, prints}
-use Rattle.pw_top_answer.specs.Outcomes.{Answers, IsPrintAnswer, LeavesStreams, OutputCount, PutsOut, StoreCount}
+use Rattle.pw_top_answer.specs.Outcomes.{Answers, IsLineDue, IsPrintAnswer, LeavesStreams, OutputCount, PutsOut, StoreCount}
+use Rattle.pw_store_texts.specs.Seen.{IsSeen}
 use Rattle.pw_gen.specs.Generator.{generated}
 use Rattle.pw_build_files.specs.FromBuild.BuildFault.{BuildFault}
 use Rattle.pw_build_files.specs.FromBuild.BuildFault.TheVariants as build
@@ -142,11 +143,14 @@ refused_is (build.LinkRefused fault) proper h = proper
 refused_is build.StoreFault proper h = absurd (no_fault h)
 refused_is build.NoMemory proper h = tt
 
-pub refused_at : (number : ℕ) (fault : BuildFault) (line : Option ℕ) (files : Files) → files ≡ bench_files number → IsLine (refused_line (modules_of files)) fault line → IsBenchLine number (fault_answer fault) line
-refused_at number (build.Refused name refusal) line files e h = h ∙ ap (λ (f : Files). refused_line (modules_of f)) e
-refused_at number (build.LinkRefused fault) line files e h = tt
-refused_at number build.StoreFault line files e h = tt
-refused_at number build.NoMemory line files e h = tt
+refused_due : (due : Option ℕ) (fault : BuildFault) (line : Option ℕ) → IsLine due fault line → IsLineDue due (fault_answer fault) line
+refused_due due (build.Refused name refusal) line h = h
+refused_due due (build.LinkRefused fault) line h = tt
+refused_due due build.StoreFault line h = tt
+refused_due due build.NoMemory line h = tt
+
+pub refused_at : (number : ℕ) (fault : BuildFault) (line : Option ℕ) (files : Files) → files ≡ bench_files number → ((shown : Files) → IsSeen files shown → IsLine (refused_line (modules_of shown)) fault line) → IsBenchLine number (fault_answer fault) line
+refused_at number fault line files e h = λ shown is. refused_due (refused_line (modules_of shown)) fault line (h shown (subst (λ (f : Files). IsSeen f shown) (sym e) is))
 
 pub said_is : (answer : Answer) → IsPrintAnswer answer → IsBenchAnswer answer
 said_is Done k = tt
@@ -154,11 +158,15 @@ said_is WriteFault k = tt
 said_is NoMemory k = tt
 said_is _ k = absurd k
 
+said_due : (due : Option ℕ) (answer : Answer) (line : Option ℕ) → IsPrintAnswer answer → IsLineDue due answer line
+said_due due (Refused name refusal) line k = absurd k
+said_due due (RefusedSource name refusal) line k = absurd k
+said_due due (Undefined operation home token) line k = absurd k
+said_due due (UndefinedSource operation home token) line k = absurd k
+said_due due _ line k = tt
+
 pub said_at : (number : ℕ) (answer : Answer) (line : Option ℕ) → IsPrintAnswer answer → IsBenchLine number answer line
-said_at number (Refused name refusal) line k = absurd k
-said_at number (RefusedSource name refusal) line k = absurd k
-said_at number (Undefined operation home token) line k = absurd k
-said_at number _ line k = tt
+said_at number answer line k = λ shown is. said_due (refused_line (modules_of shown)) answer line k
 
 pub said_streams : (answer : Answer) (input taken taken' : Option (List ℕ)) → IsPrintAnswer answer → LeavesStreams answer input input taken taken'
 said_streams Usage input taken taken' k = absurd k

@@ -7,15 +7,16 @@ use Rattle.pw_build_files.specs.FromBuild.BuildFault.TheVariants as build
 use Rattle.pw_build_files.specs.FromBuild.Unbuilt.{Unbuilt}
 use Rattle.pw_build_opts.specs.declared.opts.Opts.{Opts}
 use Rattle.pw_build_files.specs.declared.report.Report.{Report}
-use Rattle.pw_build_files.specs.Building.{BuildOutcome, Outcome, puts_of}
+use Rattle.pw_build_files.specs.Building.{Outcome, puts_of}
+use Rattle.pw_build_files.specs.Seen.{SeenOutcome}
 use Rattle.pw_build_files.specs.Outcomes.{AnswersBuild, FaultFound, IsBuildFound, ObeysBuild, Reports, build_answer}
 use Rattle.pw_session.specs.Builds.{BuildsTo}
 
-to_build : (files : Files) (opts : Opts) (comes : Result Outcome BuildFault) → BuildOutcome files opts comes → BuildsTo files opts comes
+to_build : (files : Files) (opts : Opts) (comes : Result Outcome BuildFault) → SeenOutcome files opts comes → BuildsTo files opts comes
 unfolding BuildsTo
 to_build files opts comes h = h
 
-of_build : (files : Files) (opts : Opts) (comes : Result Outcome BuildFault) → BuildsTo files opts comes → BuildOutcome files opts comes
+of_build : (files : Files) (opts : Opts) (comes : Result Outcome BuildFault) → BuildsTo files opts comes → SeenOutcome files opts comes
 unfolding BuildsTo
 of_build files opts comes h = h
 

@@ -8,3 +8,4 @@ pub mod TurnLemmas
 pub mod RunLemmas
 pub mod BenchLemmas
 pub mod EndLemmas
+pub mod TextLaws

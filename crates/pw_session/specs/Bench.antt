@@ -11,14 +11,13 @@ use Rattle.pw_io.specs.Files.{Files}
 use Rattle.pw_image.specs.declared.image.Image.{Image}
 use Rattle.pw_image.specs.Image.{Contents, IsImageFile}
 use Rattle.pw_machine.specs.Start.{image_start}
-use Rattle.pw_store_modules.specs.Modules.{modules_of}
 use Rattle.pw_top_answer.specs.declared.answer.Answer.{Answer}
 use Rattle.pw_top_answer.specs.declared.answer.Answer.TheVariants.{Done, Refused, LinkRefused, WriteFault, NoMemory}
 use Rattle.pw_top_answer.specs.Effects.{Effect, answers_alone, prints}
-use Rattle.pw_top_answer.specs.Outcomes.{Answers, IsLineDue, PutsOut}
+use Rattle.pw_top_answer.specs.Outcomes.{Answers, PutsOut}
 use Rattle.pw_gen.specs.Generator.{functions_of_a_module, generated}
 use Rattle.pw_build_files.specs.FromBuild.BuildFault.{BuildFault}
-use Rattle.pw_build_files.specs.FromBuild.Phases.{refused_line}
+use Rattle.pw_build_files.specs.Seen.{IsSeenLine}
 use Rattle.pw_build_files.specs.Building.{Outcome}
 use Rattle.pw_build_files.specs.Outcomes.{fault_answer}
 use Rattle.pw_commands.specs.MachineRun.{run_answer}
@@ -93,7 +92,7 @@ IsBenchAnswer _ = ⊥
 
 -- the line on which a module is refused, where one is
 abbrev pub IsBenchLine : ℕ → Answer → Option ℕ → Type 0
-IsBenchLine number answer line = IsLineDue (refused_line (modules_of (bench_files number))) answer line
+IsBenchLine number answer line = IsSeenLine (bench_files number) answer line
 
 -- ---- inside
 

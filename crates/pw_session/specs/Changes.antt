@@ -1,8 +1,8 @@
 -- Changes of the files of a store.
-use Rattle.std.specs.Prelude.{◌≡◌, ℕ, ◌⊎◌, List, [], ◌∷◌, ◌++◌, Option, Some, IsSomeAnd}
+use Rattle.std.specs.Prelude.{◌≡◌, ℕ, ◌⊎◌, List, ◌∷◌, Option, Some, IsSomeAnd}
 use Rattle.std.specs.List.{AllByRecursion}
 use Rattle.pw_io.specs.Files.{Told, after_put, after_remove, LeavesFile}
-use Rattle.pw_store_modules.specs.Modules.{IsModuleFile}
+use Rattle.pw_store_texts.specs.Names.{IsTextFile}
 use Rattle.pw_top_answer.specs.declared.answer.Answer.{Answer}
 use Rattle.pw_top_answer.specs.declared.answer.Answer.TheVariants.{ReadFault, WriteFault, StoreFault, NoMemory}
 use Rattle.pw_top_answer.specs.Effects.{DonePart, DonePrefix, NamedFile, after_all}
@@ -44,9 +44,9 @@ MakesChanges changes WriteFault told new = ChangePrefix told changes new
 MakesChanges changes NoMemory told new = ChangePrefix told changes new
 MakesChanges changes _ told new = new ≡ Some (after_changes told changes)
 
--- a session puts files of modules and of builds, and removes only files that it may
+-- a session puts texts, and files of builds, and removes only files that it may
 abbrev pub IsOwnChange : (List ℕ → Type 0) → Change → Type 0
-IsOwnChange may (Puts file) = IsModuleFile file.0 ⊎ IsBuiltName file.0
+IsOwnChange may (Puts file) = IsTextFile file.0 ⊎ IsBuiltName file.0
 IsOwnChange may (Removes name) = may name
 
 abbrev pub AreOwnChanges : (List ℕ → Type 0) → List Change → Type 0

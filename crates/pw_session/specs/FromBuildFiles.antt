@@ -4,3 +4,4 @@ pub use Rattle.pw_build_files.specs.Driving
 pub use Rattle.pw_build_files.specs.Full
 pub use Rattle.pw_build_files.specs.Genuine
 pub use Rattle.pw_build_files.specs.Outcomes
+pub use Rattle.pw_build_files.specs.Seen

@@ -1,13 +1,15 @@
 -- What a session answers, puts out and leaves of the store and its input.
-use Rattle.std.specs.Prelude.{◌≡◌, ℕ, ◌+◌, ◌≤◌, suc, List, [], ◌++◌, length, Option, Some, None, IfSome, IsSomeAnd, Vec, option_map}
+use Rattle.std.specs.Prelude.{◌≡◌, ℕ, ◌⊎◌, ◌+◌, ◌≤◌, suc, List, [], ◌++◌, length, Option, Some, None, IfSome, IsSomeAnd, Vec, option_map}
 use Rattle.std.specs.declared.alloc.Global.{Global}
-use Rattle.pw_io.specs.Files.{Told}
+use Rattle.pw_io.specs.Files.{Files, Told}
+use Rattle.pw_commands_cpp.specs.Telling.{TellsAnswer}
 use Rattle.pw_top_answer.specs.declared.answer.Answer.{Answer}
 use Rattle.pw_top_answer.specs.declared.answer.Answer.TheVariants.{Done, ReadFault, WriteFault, StoreFault, NoMemory, BadScript}
-use Rattle.pw_top_answer.specs.Outcomes.{Answers, IsPrintAnswer, PutsOut}
+use Rattle.pw_top_answer.specs.Outcomes.{Answers, IsLineDue, IsPrintAnswer, PutsOut, StoreCount}
 use Rattle.pw_top_answer.specs.Answers.{line_text}
 use Rattle.pw_build_files.specs.FromBuild.BuildFault.{BuildFault}
 use Rattle.pw_build_files.specs.FromBuild.BuildFault.TheVariants as build
+use Rattle.pw_build_files.specs.FromBuild.Phases.{IsLine}
 use Rattle.pw_build_files.specs.Outcomes.{HoldsImage, fault_answer}
 use Rattle.pw_session_script.specs.declared.line.TakenLine.{TakenLine}
 use Rattle.pw_session_script.specs.declared.line.ScriptFault.{ScriptFault}
@@ -177,8 +179,31 @@ IsReadAnswer ReadFault = Unit {0}
 IsReadAnswer (BadScript at) = Unit {0}
 IsReadAnswer _ = ⊥
 
+-- The output was left, and the store failed or memory ran out.
+abbrev pub Leaves : Answer → Option (List ℕ) → Option (List ℕ) → Type 0
+Leaves answer taken taken' = ((answer ≡ StoreFault) ⊎ (answer ≡ NoMemory)) × (taken' ≡ taken)
+
+-- the line of what is told of a refusal was put out
+pub record SaysTold (files : Files) (fault : BuildFault) (line : Option ℕ) (answer : Answer) (taken taken' : Option (List ℕ)) : Type 0 where
+  pub told : Answer
+  pub tells : TellsAnswer files (fault_answer fault) told
+  pub number : Option ℕ
+  pub due : (due : Option ℕ) → IsLine due fault line → IsLineDue due told number
+  pub said : PutsOut (line_text number told) answer taken taken'
+  pub print : IsPrintAnswer answer
+
 -- what is told of a fault of a build: the line of a refusal; a fault of the store, and want of memory, are the answer
-abbrev pub SaysFault : BuildFault → Option ℕ → Answer → Option (List ℕ) → Option (List ℕ) → Type 0
-SaysFault build.StoreFault line answer taken taken' = (answer ≡ StoreFault) × (taken' ≡ taken)
-SaysFault build.NoMemory line answer taken taken' = (answer ≡ NoMemory) × (taken' ≡ taken)
-SaysFault fault line answer taken taken' = PutsOut (line_text line (fault_answer fault)) answer taken taken' × IsPrintAnswer answer
+abbrev pub SaysFault : Files → BuildFault → Option ℕ → Answer → Option (List ℕ) → Option (List ℕ) → Type 0
+SaysFault files build.StoreFault line answer taken taken' = (answer ≡ StoreFault) × (taken' ≡ taken)
+SaysFault files build.NoMemory line answer taken taken' = (answer ≡ NoMemory) × (taken' ≡ taken)
+SaysFault files fault line answer taken taken' = Leaves answer taken taken' ⊎ SaysTold files fault line answer taken taken'
+
+-- the same of a reply
+abbrev pub SaysReply : Answer → Option ℕ → Answer → Option (List ℕ) → Option (List ℕ) → Type 0
+SaysReply StoreFault line answer taken taken' = (answer ≡ StoreFault) × (taken' ≡ taken)
+SaysReply NoMemory line answer taken taken' = (answer ≡ NoMemory) × (taken' ≡ taken)
+SaysReply reply line answer taken taken' = PutsOut (line_text line reply) answer taken taken' × IsPrintAnswer answer
+
+-- a fault of the store is answered only where the reply is one
+abbrev pub StoresAlike : Answer → Answer → Type 0
+StoresAlike reply answer = (before now : ℕ) → StoreCount before now reply → StoreCount before now answer

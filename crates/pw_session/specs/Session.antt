@@ -2,18 +2,14 @@
 use Rattle.std.specs.Prelude.{◌≡◌, ℕ, zero, suc, ◌+◌, ◌-◌, List, [], ◌∷◌, ◌++◌, codes, length, map, Option, Some, None, Result, Ok, Err}
 use Rattle.std.specs.Option.{option_map_or}
 use Rattle.pw_io.specs.Files.{Told}
-use Rattle.pw_store_modules.specs.Modules.{modules_of}
 use Rattle.pw_top_answer.specs.declared.answer.Answer.{Answer}
 use Rattle.pw_top_answer.specs.declared.answer.Answer.TheVariants.{Done, BadScript}
-use Rattle.pw_top_answer.specs.Answers.{line_text}
 use Rattle.pw_build_files.specs.FromBuild.BuildFault.{BuildFault}
-use Rattle.pw_build_files.specs.FromBuild.Phases.{refused_line}
 use Rattle.pw_build_files.specs.Building.{Outcome}
-use Rattle.pw_build_files.specs.Outcomes.{fault_answer}
 use Rattle.pw_build_files.specs.Driving.{outcome_lines}
 use Rattle.pw_session_script.specs.Script.{LineValue, PutText, RemoveText, BuildProgram, RunProgram, first_line}
 use Rattle.pw_build_opts.specs.declared.opts.RunOpts.{RunOpts}
-use Rattle.pw_session.specs.Builds.{BuildsTo}
+use Rattle.pw_session.specs.Builds.{BuildsTo, TellsText}
 use Rattle.pw_session.specs.Changes.{Change, Puts, Removes, after_changes}
 use Rattle.pw_session.specs.Runs.{RunPrints}
 
@@ -70,23 +66,23 @@ pub record LineEffect : Type 0 where
 abbrev pub changes_as : SessionState → Change → LineEffect
 changes_as s change = record { output = codes "ok\n"; changes = change ∷ []; image = s.image }
 
--- A build puts its files, tells its report, and leaves its image; one that is refused tells that alone.
-abbrev pub builds_as : SessionState → Result Outcome BuildFault → LineEffect
-builds_as s (Ok outcome) = record {
+abbrev pub puts_out : SessionState → List ℕ → LineEffect
+puts_out s output = record { output = output; changes = []; image = s.image }
+
+-- A build puts its files, tells its report, and leaves its image; of one that is refused a line tells that alone.
+abbrev pub builds_as : SessionState → List ℕ → Result Outcome BuildFault → LineEffect
+builds_as s line (Ok outcome) = record {
   output = outcome_lines outcome;
   changes = map Puts outcome.puts;
   image = Some outcome.image;
 }
-builds_as s (Err fault) = record { output = line_text (refused_line (modules_of s.told.files)) (fault_answer fault); changes = []; image = s.image }
-
-abbrev pub puts_out : SessionState → List ℕ → LineEffect
-puts_out s output = record { output = output; changes = []; image = s.image }
+builds_as s line (Err fault) = puts_out s line
 
 -- what a line does
 abbrev pub Acts : RunOpts → SessionState → LineValue → LineEffect → Type 0
 Acts opts s (PutText file text) effect = effect ≡ changes_as s (Puts (file, text))
 Acts opts s (RemoveText file) effect = effect ≡ changes_as s (Removes file)
-Acts opts s BuildProgram effect = (comes : Result Outcome BuildFault) × BuildsTo s.told.files opts.build comes × (effect ≡ builds_as s comes)
+Acts opts s BuildProgram effect = (comes : Result Outcome BuildFault) × BuildsTo s.told.files opts.build comes × (line : List ℕ) × TellsText s.told.files comes line × (effect ≡ builds_as s line comes)
 Acts opts s (RunProgram input) effect = (output : List ℕ) × RunPrints s.image opts.budget input output × (effect ≡ puts_out s output)
 
 -- ---- all lines

@@ -5,7 +5,7 @@ ghost use Rattle.pw_top_answer.specs.Outcomes.{InputCount, OutputCount, StoreCou
 ghost use Rattle.pw_build_files.specs.Genuine.{KeepsGenuine};
 ghost use Rattle.pw_build_files.specs.Outcomes.{AreOpts};
 ghost use Rattle.pw_session_script.specs.Reading.{IsReadInPart, line_view};
-ghost use Rattle.pw_session_script.specs.Script.{NamesModule};
+ghost use Rattle.pw_session_script.specs.Script.{NamesText};
 ghost use Rattle.pw_session.specs.Changes.{MakesSome};
 ghost use Rattle.pw_session.specs.Session.{lines_limit};
 ghost use Rattle.pw_session.specs.Removals.{IsRemovedBy, MayRemove, MayRemoveFirst};
@@ -55,7 +55,7 @@ fn obey_taken<S: Store, O: Sink>(
     taken: &TakenLine,
 ) -> Turn
     requires opts { AreOpts opts.now.build }
-    requires named { NamesModule (line_view taken.now.line) }
+    requires named { NamesText (line_view taken.now.line) }
     requires image { KeepsImage (image_view image.old) }
     ensures does { IfSome (S.told store.old) (λ told. ObeysLine opts.now (record { told = told; image = image_view image.old }) (line_view taken.now.line) (turn_answer result) (S.told store.new) (O.taken out.old) (O.taken out.new) (image_view image.new)) }
     ensures image { KeepsImage (image_view image.new) }

@@ -1,14 +1,13 @@
 -- Which words are texts.
-use Rattle.std.proofs.Common.{◌≡◌, ℕ, zero, suc, ◌-◌, ◌<◌, ◌&&◌, Bool, true, false, List, [], ◌∷◌, length, drop, None, refl, sym, subst, arith, true≢false}
+use Rattle.std.proofs.Common.{◌≡◌, ℕ, zero, suc, ◌<◌, ◌&&◌, Bool, true, false, cond, List, [], ◌∷◌, Some, None, refl, sym, arith, true≢false}
+use Rattle.std.proofs.lemmas.Bool.{false_from_ne_true}
 use Rattle.std.proofs.lemmas.Bool.Decides.{nat_tests}
-use Rattle.std.proofs.lemmas.List.{take-append-drop}
-use Rattle.std.proofs.lemmas.Slice.Eq.{bytes_eq-Decides}
 use Rattle.std.specs.Char.{is_ascii_digit}
 use Rattle.std.specs.List.{list_all}
-use Rattle.std.specs.Str.{IsUtf8, IsAscii, bytes_eq}
-use Rattle.std.proofs.lemmas.Str.{IsUtf8-append, IsUtf8-from_ascii}
-use Rattle.pw_store_modules.specs.FileNames.{text_ending}
-use Rattle.pw_store_modules.specs.Modules.{is_name_byte, is_module_name, is_module_file, stem}
+use Rattle.std.specs.Str.{IsUtf8, IsAscii, is_utf8}
+use Rattle.std.proofs.lemmas.Str.{IsUtf8-from_ascii, IsUtf8-from_is_utf8, is_utf8-from_IsUtf8}
+use Rattle.pw_store_texts.specs.Names.{is_text_file}
+use Rattle.pw_session_script.specs.Script.{file_in}
 use Rattle.pw_top_words.specs.CommandLine.{are_digits, is_numeral, number_in}
 
 both : (a b : Bool) → (a && b) ≡ true → (a ≡ true) × (b ≡ true)
@@ -24,9 +23,6 @@ all_ascii p (byte ∷ bytes) low h (suc k) = all_ascii p bytes low (both (p byte
 low_digit : (b : ℕ) → is_ascii_digit b ≡ true → b < 128
 low_digit b h = grind (arith, nat_tests, h)
 
-low_name_byte : (b : ℕ) → is_name_byte b ≡ true → b < 128
-low_name_byte b h = grind (arith, nat_tests, h)
-
 -- a number's digits are text
 pub no_text_no_number : (most : ℕ) (digits : List ℕ) → (IsUtf8 digits → ⊥) → number_in 0 most digits ≡ None
 no_text_no_number most digits h = by_test (is_numeral digits) refl
@@ -35,17 +31,20 @@ no_text_no_number most digits h = by_test (is_numeral digits) refl
     by_test true e = absurd (h (IsUtf8-from_ascii digits (all_ascii is_ascii_digit digits low_digit (both _ (are_digits digits) (both _ _ e).1).1)))
     by_test false e = rw e refl
 
-ending_ascii : IsAscii text_ending
-ending_ascii zero = omega arith
-ending_ascii (suc zero) = omega arith
-ending_ascii (suc (suc k)) = omega arith
+by_text : (word : List ℕ) (a b : Bool) → a ≡ true → b ≡ true → cond (a && b) (Some word) None ≡ Some word
+by_text word true true e f = refl
+by_text word true false e f = cc
+by_text word false b e f = cc
 
--- the name of a module's file is text
-pub file_is_text : (file : List ℕ) → is_module_file file ≡ true → IsUtf8 file
-file_is_text file h =
-    let ending : bytes_eq (drop (length file - 2) file) text_ending ≡ true = (both _ (is_module_name (stem file)) (both _ _ h).1).0 in
-    let named : is_module_name (stem file) ≡ true = (both (bytes_eq (drop (length file - 2) file) text_ending) _ (both _ _ h).1).1 in
-    let bytes : list_all is_name_byte (stem file) ≡ true = (both _ (list_all is_name_byte (stem file)) (both _ _ named).1).1 in
-    subst IsUtf8 (take-append-drop (length file - 2) file)
-    (IsUtf8-append (stem file) (drop (length file - 2) file) (IsUtf8-from_ascii (stem file) (all_ascii is_name_byte (stem file) low_name_byte bytes))
-    (subst IsUtf8 (sym ((bytes_eq-Decides (drop (length file - 2) file) text_ending).0 ending)) (IsUtf8-from_ascii text_ending ending_ascii)))
+by_none : (word : List ℕ) (a b : Bool) → b ≡ false → cond (a && b) (Some word) None ≡ None
+by_none word true true f = cc
+by_none word true false f = refl
+by_none word false b f = refl
+
+-- a text's file whose name is in UTF-8
+pub text_is_file : (word : List ℕ) → is_text_file word ≡ true → IsUtf8 word → file_in word ≡ Some word
+text_is_file word e u = by_text word (is_text_file word) (is_utf8 word) e (is_utf8-from_IsUtf8 word u)
+
+-- one that is not
+pub no_text_no_file : (word : List ℕ) → (IsUtf8 word → ⊥) → file_in word ≡ None
+no_text_no_file word h = by_none word (is_text_file word) (is_utf8 word) (false_from_ne_true (is_utf8 word) (λ t. h (IsUtf8-from_is_utf8 word t)))

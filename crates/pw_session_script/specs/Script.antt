@@ -1,8 +1,8 @@
 -- The script of a session: lines of commands, some with bytes behind them.
-use Rattle.std.specs.Prelude.{◌≡◌, ℕ, zero, suc, ◌+◌, ◌==◌, ◌≤◌, Bool, true, if◌then◌else◌, List, [], ◌∷◌, take, drop, codes, Option, Some, None, option_map, option_and_then}
+use Rattle.std.specs.Prelude.{◌≡◌, ℕ, zero, suc, ◌+◌, ◌==◌, ◌≤◌, Bool, true, ◌&&◌, if◌then◌else◌, List, [], ◌∷◌, take, drop, codes, Option, Some, None, option_map, option_and_then}
 use Rattle.std.specs.List.{position}
-use Rattle.std.specs.Str.{bytes_eq}
-use Rattle.pw_store_modules.specs.Modules.{is_module_file}
+use Rattle.std.specs.Str.{bytes_eq, is_utf8}
+use Rattle.pw_store_texts.specs.Names.{is_text_file}
 use Rattle.pw_top_words.specs.CommandLine.{number_in}
 
 -- ---- the bytes of a line
@@ -32,7 +32,7 @@ content_of (suc n) (byte ∷ bytes) = before_rest byte (content_of n bytes)
 
 -- ---- commands
 
--- the command that a line says: put so many bytes into a module's file, remove such a file, build, or run on so many bytes
+-- the command that a line says: put so many bytes into a text's file, remove such a file, build, or run on so many bytes
 pub data Command : Type 0 where
   PutFile : List ℕ → ℕ → Command
   RemoveFile : List ℕ → Command
@@ -63,11 +63,11 @@ first_word line = before_place line (position is_space line)
 abbrev pub words_behind : List ℕ → Option (List ℕ)
 words_behind line = behind_place line (position is_space line)
 
--- the name of a module's file
+-- the name of a text's file: of a module's, or of a header; the names of a store's files are in UTF-8
 abbrev pub file_in : List ℕ → Option (List ℕ)
-file_in word = if is_module_file word then Some word else None
+file_in word = if is_text_file word && is_utf8 word then Some word else None
 
--- `NAME.i COUNT`, with COUNT in one to nineteen decimal digits
+-- `FILE COUNT`, with COUNT in one to nineteen decimal digits
 abbrev pub put_in : List ℕ → Option (List ℕ) → Option Command
 put_in word None = None
 put_in word (Some digits) = option_and_then (λ file. option_map (PutFile file) (number_in 0 put_limit digits)) (file_in word)
@@ -90,28 +90,28 @@ command_in word (Some words) = long_command word words
 abbrev pub command_of : List ℕ → Option Command
 command_of line = command_in (first_word line) (words_behind line)
 
--- it names a module's file, and no more bytes stand behind it than may
+-- it names a text's file, and no more bytes stand behind it than may
 abbrev pub IsLawfulCommand : Command → Type 0
-IsLawfulCommand (PutFile file count) = (is_module_file file ≡ true) × (count ≤ put_limit)
-IsLawfulCommand (RemoveFile file) = is_module_file file ≡ true
+IsLawfulCommand (PutFile file count) = (is_text_file file ≡ true) × (count ≤ put_limit)
+IsLawfulCommand (RemoveFile file) = is_text_file file ≡ true
 IsLawfulCommand BuildAll = Unit {0}
 IsLawfulCommand (RunWith count) = count ≤ run_limit
 
 -- ---- lines
 
--- a command with its bytes: the text of a module's file, or a run's input
+-- a command with its bytes: a text's, or a run's input
 pub data LineValue : Type 0 where
   PutText : List ℕ → List ℕ → LineValue
   RemoveText : List ℕ → LineValue
   BuildProgram : LineValue
   RunProgram : List ℕ → LineValue
 
--- the file that is put or removed is that of a module
-abbrev pub NamesModule : LineValue → Type 0
-NamesModule (PutText file text) = is_module_file file ≡ true
-NamesModule (RemoveText file) = is_module_file file ≡ true
-NamesModule BuildProgram = Unit {0}
-NamesModule (RunProgram input) = Unit {0}
+-- the file that is put or removed is that of a text
+abbrev pub NamesText : LineValue → Type 0
+NamesText (PutText file text) = is_text_file file ≡ true
+NamesText (RemoveText file) = is_text_file file ≡ true
+NamesText BuildProgram = Unit {0}
+NamesText (RunProgram input) = Unit {0}
 
 -- a command with the bytes that stand behind it
 abbrev pub with_content : Command → List ℕ → Option (LineValue × List ℕ)

@@ -2,16 +2,16 @@
 
 ghost use Rattle.std.specs.Prelude.{◌≡◌, ◌<◌, ◌≤◌, IfSome, Some, length, true, option_map};
 ghost use Rattle.std.specs.List.{position};
-ghost use Rattle.pw_store_modules.specs.Modules.{is_module_file};
+ghost use Rattle.pw_store_texts.specs.Names.{is_text_file};
 ghost use Rattle.pw_top_words.specs.CommandLine.{number_in};
 ghost use Rattle.pw_session_script.specs.Script.{IsLawfulCommand, command_of, content_length, file_in, first_word, is_space, long_command, put_in, put_of, words_behind};
 ghost use Rattle.pw_session_script.specs.Reading.{command_view};
 
 use crate::limits::{PUT_LIMIT, RUN_LIMIT};
-use pw_store_modules::is_module_file;
+use pw_store_texts::is_text_file;
 use pw_top_words::number_in;
 
-/// The command of a line, with the name of a module's file and how many bytes stand behind the line.
+/// The command of a line, with the name of a text's file and how many bytes stand behind the line.
 #[derive(Clone, Copy)]
 pub enum Command<'a> {
     Put(&'a str, u64),
@@ -50,17 +50,17 @@ fn words_of(line: &[u8]) -> (&[u8], Option<&[u8]>)
     }
 }
 
-/// The name of a module's file.
+/// The name of a text's file.
 fn file_in(word: &[u8]) -> Option<&str>
     ensures file { option_map (λ file. file.now) result ≡ file_in word.now }
-    ensures named { IfSome result (λ file. is_module_file file.now ≡ true) }
+    ensures named { IfSome result (λ file. is_text_file file.now ≡ true) }
 {
-    if !is_module_file(word) {
+    if !is_text_file(word) {
         return None;
     }
     match str::from_utf8(word) {
         Ok(file) => Some(file),
-        Err(_) => unreachable!(),
+        Err(_) => None,
     }
 }
 
@@ -75,7 +75,7 @@ fn count_in(most: u64, digits: &[u8]) -> Option<u64>
     }
 }
 
-/// The command that puts so many bytes into a module's file.
+/// The command that puts so many bytes into a text's file.
 fn put_in<'a>(word: &'a [u8], digits: &[u8]) -> Option<Command<'a>>
     ensures command { option_map command_view result ≡ put_in word.now (Some digits.now) }
     ensures lawful { IfSome result (λ command. IsLawfulCommand (command_view command)) }

@@ -6,7 +6,7 @@ ghost use Rattle.pw_session_script.specs.Script.{line_limit, put_limit, run_limi
 /// The greatest count of bytes of a command's line, with its newline.
 pub const LINE_LIMIT: u32 = 512;
 
-/// The greatest count of bytes of a module's text.
+/// The greatest count of bytes of a text that is put.
 pub const PUT_LIMIT: u64 = 2_097_152;
 
 /// The greatest count of bytes of a run's input.

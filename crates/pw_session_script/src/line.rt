@@ -6,9 +6,9 @@ use std::alloc::AllocError;
 /// A line of a script.
 #[derive(Drop)]
 pub enum Line {
-    /// `put NAME.i COUNT`: the name of the module's file, and the text that stands behind the line.
+    /// `put FILE COUNT`: the name of a module's file or of a header, and the text that stands behind the line.
     Put(String, Vec<u8>),
-    /// `remove NAME.i`: the name of the module's file.
+    /// `remove FILE`: the name of such a file.
     Remove(String),
     /// `build`.
     Build,

@@ -1,9 +1,9 @@
 //! Reading the lines of a script.
 
 ghost use Rattle.std.specs.Prelude.{◌≡◌, ◌+◌, ◌<◌, ◌≤◌, ◌++◌, ◌∷◌, [], IfErr, IfOk, IfSome, OnOk, length, string_bytes, true};
-ghost use Rattle.pw_store_modules.specs.Modules.{is_module_file};
+ghost use Rattle.pw_store_texts.specs.Names.{is_text_file};
 ghost use Rattle.pw_session_script.specs.Reading.{EndsHead, IsReadInPart, ReadsBehind, ReadsCommand, ReadsContent, ReadsHead, ReadsLine, ReadsTaken, ScriptCount, command_view, line_view};
-ghost use Rattle.pw_session_script.specs.Script.{IsLawfulCommand, NamesModule, PutFile, RunWith, command_of, line_limit, taken_limit};
+ghost use Rattle.pw_session_script.specs.Script.{IsLawfulCommand, NamesText, PutFile, RunWith, command_of, line_limit, taken_limit};
 
 use crate::command::{Command, command_of, content_length};
 use crate::limits::LINE_LIMIT;
@@ -88,8 +88,8 @@ fn put_line<I: Source>(
     file: &str,
     count: u64,
 ) -> Result<Line, ScriptFault>
-    requires { is_module_file file.now ≡ true }
-    ensures named { IfOk result (λ line. NamesModule (line_view line)) }
+    requires { is_text_file file.now ≡ true }
+    ensures named { IfOk result (λ line. NamesText (line_view line)) }
     ensures line { IfSome (I.rest input.old) (λ rest. ReadsCommand (PutFile file.now count) rest (I.rest input.new) result) }
     ensures part { IfSome (I.rest input.old) (λ rest. IsReadInPart rest (I.rest input.new)) }
     ensures count { ScriptCount (I.faults input.old) (I.faults input.new) result }
@@ -101,7 +101,7 @@ fn put_line<I: Source>(
 
 /// The line that runs the program.
 fn run_line<I: Source>(alloc: Global, input: &mut I, count: u64) -> Result<Line, ScriptFault>
-    ensures named { IfOk result (λ line. NamesModule (line_view line)) }
+    ensures named { IfOk result (λ line. NamesText (line_view line)) }
     ensures line { IfSome (I.rest input.old) (λ rest. ReadsCommand (RunWith count) rest (I.rest input.new) result) }
     ensures part { IfSome (I.rest input.old) (λ rest. IsReadInPart rest (I.rest input.new)) }
     ensures count { ScriptCount (I.faults input.old) (I.faults input.new) result }
@@ -117,7 +117,7 @@ fn line_of<I: Source>(
     command: Command<'_>,
 ) -> Result<Line, ScriptFault>
     requires { IsLawfulCommand (command_view command) }
-    ensures named { IfOk result (λ line. NamesModule (line_view line)) }
+    ensures named { IfOk result (λ line. NamesText (line_view line)) }
     ensures line { IfSome (I.rest input.old) (λ rest. ReadsCommand (command_view command.entry) rest (I.rest input.new) result) }
     ensures part { IfSome (I.rest input.old) (λ rest. IsReadInPart rest (I.rest input.new)) }
     ensures count { ScriptCount (I.faults input.old) (I.faults input.new) result }
@@ -141,7 +141,7 @@ fn taken_line<I: Source>(
     requires lawful { IsLawfulCommand (command_view command) }
     ensures line { IfSome (I.rest input.old) (λ rest. ReadsTaken (command_view command.entry) before rest (I.rest input.new) result) }
     ensures short { IfOk result (λ taken. taken.length ≤ taken_limit) }
-    ensures named { IfOk result (λ taken. NamesModule (line_view taken.line)) }
+    ensures named { IfOk result (λ taken. NamesText (line_view taken.line)) }
     ensures part { IfSome (I.rest input.old) (λ rest. IsReadInPart rest (I.rest input.new)) }
     ensures count { ScriptCount (I.faults input.old) (I.faults input.new) result }
 {
@@ -160,7 +160,7 @@ fn line_behind<I: Source>(
     ensures line { IfSome (I.rest input.old) (λ rest. ReadsBehind head.now rest (I.rest input.new) result) }
     ensures no_command { command_of head.now ≡ None → result ≡ Err ScriptFault.BadLine }
     ensures short { IfOk result (λ taken. taken.length ≤ taken_limit) }
-    ensures named { IfOk result (λ taken. NamesModule (line_view taken.line)) }
+    ensures named { IfOk result (λ taken. NamesText (line_view taken.line)) }
     ensures part { IfSome (I.rest input.old) (λ rest. IsReadInPart rest (I.rest input.new)) }
     ensures count { ScriptCount (I.faults input.old) (I.faults input.new) result }
 {
@@ -179,7 +179,7 @@ fn line_behind<I: Source>(
 pub fn next_line<I: Source>(alloc: Global, input: &mut I) -> Result<Option<TakenLine>, ScriptFault>
     ensures line { IfSome (I.rest input.old) (λ rest. ReadsLine rest (I.rest input.new) result) }
     ensures short { IfOk result (λ found. IfSome found (λ taken. taken.length ≤ taken_limit)) }
-    ensures named { IfOk result (λ found. IfSome found (λ taken. NamesModule (line_view taken.line))) }
+    ensures named { IfOk result (λ found. IfSome found (λ taken. NamesText (line_view taken.line))) }
     ensures part { IfSome (I.rest input.old) (λ rest. IsReadInPart rest (I.rest input.new)) }
     ensures count { ScriptCount (I.faults input.old) (I.faults input.new) result }
 {

@@ -1,5 +1,6 @@
 pub mod Headers
 pub mod Names
 pub mod Outputs
+pub mod Placing
 pub mod Seen
 pub mod Views

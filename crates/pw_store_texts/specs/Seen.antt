@@ -1,16 +1,22 @@
 -- The C sources of a store, what comes of each, and the files as a build sees them.
-use Rattle.std.specs.Prelude.{ℕ, if◌then◌else◌, List, [], ◌∷◌, codes, Option, None, Ok, Err}
+use Rattle.std.specs.Prelude.{◌≡◌, ℕ, ◌<◌, ◌≤◌, if◌then◌else◌, List, [], ◌∷◌, codes, length, map, Option, None, Result, Ok, Err}
+use Rattle.std.specs.Global.{Vec}
 use Rattle.std.specs.Option.{option_map}
 use Rattle.std.specs.List.{filter_map}
 use Rattle.std.specs.FinMap as finite
 use Rattle.pw_cpp_sources.specs.Sources.{Texts}
 use Rattle.pw_io.specs.Files.{Files, prefix_of}
 use Rattle.pw_store_modules.specs.FileNames.{text_name}
-use Rattle.pw_store_modules.specs.Modules.{stem, text_read}
+use Rattle.pw_store_modules.specs.Modules.{modules_of, stem, text_read}
+use Rattle.pw_store_modules.specs.Views.{source}
+use Rattle.pw_store_modules.specs.declared.few.ModulesFault.{ModulesFault}
+use Rattle.pw_store_modules.specs.declared.few.ModulesFault.TheVariants as modules
+use Rattle.pw_store_modules.specs.declared.modules.Module.{Module}
 use Rattle.pw_store_texts.specs.Headers.{headers_of}
 use Rattle.pw_store_texts.specs.Names.{is_source_file}
 use Rattle.pw_store_texts.specs.Outputs.{ComesBy, Output, output_of}
-use Rattle.pw_store_texts.specs.declared.sources.Compiled.{Compiled}
+use Rattle.pw_store_texts.specs.declared.compiled.Compiled.{Compiled}
+use Rattle.pw_value.specs.Limits.{module_limit}
 
 -- a C source with its module's name, and its text as far as texts are read
 abbrev pub source_in : Files → List ℕ → Option (List ℕ × List ℕ)
@@ -54,4 +60,15 @@ seen_text (Err fault) = refused_text
 -- the output of each C source stands as its module's text
 abbrev pub seen : Files → Outputs → Files
 seen files [] = files
-seen files (output ∷ outputs) = finite.insert (seen files outputs) (text_name output.0) (seen_text output.1)
+seen files (output ∷ outputs) = seen (finite.insert files (text_name output.0) (seen_text output.1)) outputs
+
+-- these are the files as a build sees them
+abbrev pub IsSeen : Files → Files → Type 0
+IsSeen files shown = (outputs : Outputs) × StoreComes files outputs × (shown ≡ seen files outputs)
+
+-- What is answered of the modules of files: they are as a build sees them, and no more than there may be; or their count, where there
+-- are more; or the store's own answer.
+abbrev pub AnswersSeen : Files → Result (Vec Module) ModulesFault → Type 0
+AnswersSeen files (Ok found) = (shown : Files) × IsSeen files shown × (map source found.items ≡ modules_of shown) × (length found.items ≤ module_limit)
+AnswersSeen files (Err (modules.TooMany count)) = (shown : Files) × IsSeen files shown × (count ≡ length (modules_of shown)) × (module_limit < count)
+AnswersSeen files (Err (modules.Store error)) = Unit {0}

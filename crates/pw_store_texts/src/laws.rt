@@ -1,9 +1,13 @@
-//! Laws of outputs. A function here does nothing: its clauses are facts about all values.
+//! Laws of texts and of what comes of them. A function here does nothing: its clauses are facts about all values.
 
-ghost use Rattle.std.specs.Prelude.{◌≡◌};
+ghost use Rattle.std.specs.Prelude.{◌≡◌, ◌≢◌, ℕ, List, true};
+ghost use Rattle.std.specs.FinMap as finite;
 ghost use Rattle.pw_io.specs.Files.{Files};
-ghost use Rattle.pw_store_texts.specs.Seen.{Outputs, StoreComes};
+ghost use Rattle.pw_store_modules.specs.FileNames.{database_name, image_name, object_name};
+ghost use Rattle.pw_store_texts.specs.Names.{is_text_file};
+ghost use Rattle.pw_store_texts.specs.Seen.{IsSeen, Outputs, StoreComes};
 
+use pw_io::laws::other_files;
 use pw_law_cpp::one_output;
 
 /// The C sources of a store come to one thing.
@@ -12,3 +16,26 @@ pub fn sources_come_to_one()
 {
     one_output();
 }
+
+/// The files of a store are seen in one way.
+pub fn files_are_seen_in_one_way()
+    ensures { (files shown other : Files) → IsSeen files shown → IsSeen files other → shown ≡ other }
+{
+    sources_come_to_one();
+}
+
+/// What a build puts stands among the files as it sees them as it stands in the store.
+pub fn built_files_are_seen()
+    ensures object { (files shown : Files) (name : List ℕ) → IsSeen files shown → finite.get shown (object_name name) ≡ finite.get files (object_name name) }
+    ensures database { (files shown : Files) → IsSeen files shown → finite.get shown database_name ≡ finite.get files database_name }
+    ensures image { (files shown : Files) → IsSeen files shown → finite.get shown image_name ≡ finite.get files image_name }
+{
+    other_files();
+}
+
+/// The file of a text is none that a build puts: no object's, and neither the database's nor the image's.
+pub fn texts_are_not_built()
+    ensures object { (file name : List ℕ) → is_text_file file ≡ true → object_name name ≢ file }
+    ensures database { (file : List ℕ) → is_text_file file ≡ true → database_name ≢ file }
+    ensures image { (file : List ℕ) → is_text_file file ≡ true → image_name ≢ file }
+{}

@@ -1,6 +1,6 @@
 //! The C sources of a store, and what comes of each.
 
-ghost use Rattle.std.specs.Prelude.{◌≡◌, ◌++◌, IfErr, IfOk, IfSome, OnOk, map, option_to_list, string_bytes};
+ghost use Rattle.std.specs.Prelude.{◌≡◌, ◌++◌, IfOk, IfSome, OnOk, map, option_to_list, string_bytes};
 ghost use Rattle.pw_cpp_sources.specs.Sources.{texts_of};
 ghost use Rattle.pw_io.specs.Faults.{HasStoreCause};
 ghost use Rattle.pw_io.specs.Files.{Keeps};
@@ -8,21 +8,14 @@ ghost use Rattle.pw_store_texts.specs.Outputs.{ComesBy, output_of};
 ghost use Rattle.pw_store_texts.specs.Seen.{AllCome, StoreComes, outcome, source_in, sources_among};
 ghost use Rattle.pw_store_texts.specs.Views.{named_text};
 
+use crate::compiled::Compiled;
 use crate::headers::{TEXT_READ, headers_among};
 use crate::names::{is_source_file, stem};
 use crate::outputs::preprocess_source;
 use crate::source::Source;
-use pw_cpp::CppFault;
 use pw_io::{Store, StoreError};
 use pw_value::Name;
 use std::alloc::{AllocError, Global};
-
-/// What comes of a module's C source: the text that is compiled, or the preprocessor's first fault, which is never want of memory.
-#[derive(Drop)]
-pub struct Compiled {
-    pub name: Name,
-    pub output: Result<Vec<u8>, CppFault>,
-}
 
 /// Reads a module's C source and puts it behind others, where a file is one. A file that is gone is left out.
 fn add_source<S: Store>(

@@ -22,7 +22,8 @@ use Rattle.pw_commands.specs.Outcome.{IsFound}
 use Rattle.pw_commands.specs.Running.{core_at, core_in, run_effect, runs}
 use Rattle.pw_law_session.specs.FromSession.FromBuild.BuildFault.{BuildFault}
 use Rattle.pw_law_session.specs.FromSession.FromBuild.BuildFault.TheVariants as build
-use Rattle.pw_law_session.specs.FromSession.FromBuildFiles.Building.{BuildOutcome, Outcome}
+use Rattle.pw_law_session.specs.FromSession.FromBuildFiles.Building.{Outcome}
+use Rattle.pw_law_session.specs.FromSession.FromBuildFiles.Seen.{SeenOutcome}
 use Rattle.pw_law_session.specs.FromSession.FromBuildFiles.Genuine.{KeepsGenuine}
 use Rattle.pw_law_session.specs.FromSession.FromBuildFiles.Outcomes.{fault_answer}
 use Rattle.pw_law_session.specs.FromMeaning.Meaning.{Means}
@@ -68,17 +69,17 @@ some_is a b e = cc
 pub record Built (opts : Opts) (told left : Told) : Type 0 where
   pub law : FullAt opts
   pub keeps : KeepsGenuine told.files
-  pub fault : (fault : BuildFault) → BuildOutcome told.files opts (Err fault) → ⊥
-  pub put : (outcome : Outcome) → BuildOutcome told.files opts (Ok outcome) → left ≡ after_puts told outcome.puts
-  pub some : (outcome : Outcome) × BuildOutcome told.files opts (Ok outcome)
+  pub fault : (fault : BuildFault) → SeenOutcome told.files opts (Err fault) → ⊥
+  pub put : (outcome : Outcome) → SeenOutcome told.files opts (Ok outcome) → left ≡ after_puts told outcome.puts
+  pub some : (outcome : Outcome) × SeenOutcome told.files opts (Ok outcome)
 
-some_outcome : (files : Files) (opts : Opts) (comes : Result Outcome BuildFault) → ((fault : BuildFault) → BuildOutcome files opts (Err fault) → ⊥) → BuildOutcome files opts comes → (outcome : Outcome) × BuildOutcome files opts (Ok outcome)
+some_outcome : (files : Files) (opts : Opts) (comes : Result Outcome BuildFault) → ((fault : BuildFault) → SeenOutcome files opts (Err fault) → ⊥) → SeenOutcome files opts comes → (outcome : Outcome) × SeenOutcome files opts (Ok outcome)
 some_outcome files opts (Ok outcome) none b = (outcome, b)
 some_outcome files opts (Err fault) none b = absurd (none fault b)
 
 pub built_of : (opts : Opts) → FullAt opts → (told left : Told) → KeepsGenuine told.files → HasBuilt opts Done told (Some left) → Built opts told left
 built_of opts law told left keeps h =
-    let none : (fault : BuildFault) → BuildOutcome told.files opts (Err fault) → ⊥ = λ fault b. not_done fault (h.answers (Err fault) b) in
+    let none : (fault : BuildFault) → SeenOutcome told.files opts (Err fault) → ⊥ = λ fault b. not_done fault (h.answers (Err fault) b) in
     record {
       law = law;
       keeps = keeps;
@@ -88,9 +89,9 @@ built_of opts law told left keeps h =
     }
 
 -- its image stands there
-pub stands : (opts : Opts) (told left : Told) → Built opts told left → (outcome : Outcome) → BuildOutcome told.files opts (Ok outcome) → finite.get left.files image_name ≡ Some outcome.image
+pub stands : (opts : Opts) (told left : Told) → Built opts told left → (outcome : Outcome) → SeenOutcome told.files opts (Ok outcome) → finite.get left.files image_name ≡ Some outcome.image
 stands opts told left built outcome b =
-    subst (λ (t : Told). finite.get t.files image_name ≡ Some outcome.image) (sym (built.put outcome b)) (built.law told (Ok outcome) built.keeps b).1.1
+    subst (λ (t : Told). finite.get t.files image_name ≡ Some outcome.image) (sym (built.put outcome b)) (built.law told (Ok outcome) built.keeps b).3.1
 
 -- ---- what `go` comes to is the run behind the build
 
@@ -101,7 +102,7 @@ record Behind (opts : RunOpts) (told left : Told) (input : List ℕ) (e : Effect
   pub run : run_effect left.files opts.budget input ≡ ran progress
   pub put : left ≡ after_puts told puts
 
-over_behind : Fronts → (opts : RunOpts) (told left : Told) (input : List ℕ) → Built opts.build told left → HoldsShortImage left.files → (comes : Result Outcome BuildFault) (e : Effect) → BuildOutcome told.files opts.build comes → GoOver opts.budget input comes e
+over_behind : Fronts → (opts : RunOpts) (told left : Told) (input : List ℕ) → Built opts.build told left → HoldsShortImage left.files → (comes : Result Outcome BuildFault) (e : Effect) → SeenOutcome told.files opts.build comes → GoOver opts.budget input comes e
     → Behind opts told left input e
 over_behind fronts opts told left input built short (Ok outcome) e b over = record {
   puts = outcome.puts;
@@ -116,7 +117,8 @@ over_behind fronts opts told left input built short (Err fault) e b over = absur
 one_go : (opts : RunOpts) (told left : Told) (input : List ℕ) → Built opts.build told left → (e : Effect) × GoEffect told.files opts input e
 one_go opts told left input built =
     let outcome = built.some.0 in
-    let means : Means (module_map told.files) opts.build outcome.image = (built.law told (Ok outcome) built.keeps built.some.1).0.1 in
+    let full = built.law told (Ok outcome) built.keeps built.some.1 in
+    let means : Means (module_map full.0) opts.build outcome.image = full.2.1 in
     (ran_behind outcome.puts (run_from opts.budget input means.contents), (Ok outcome, built.some.1, (means.contents, means.file, refl)))
 
 -- ---- what was put

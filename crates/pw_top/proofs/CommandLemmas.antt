@@ -1,6 +1,7 @@
 -- What each command did, by its own clauses.
 use Rattle.std.proofs.Common.{◌≡◌, ℕ, Bool, ◌⊎◌, ⊎_elim, List, [], Option, Some, None, Result, Ok, Err, refl, sym, ap, ◌∙◌, subst}
 use Rattle.std.specs.Prelude.{IfSome}
+use Rattle.std.specs.FinMap as finite
 use Rattle.pw_io.specs.Files.{Files, Told, Keeps}
 use Rattle.pw_object.specs.declared.object.Object.{Object}
 use Rattle.pw_db.specs.declared.database.Directives.{Directives}
@@ -11,14 +12,15 @@ use Rattle.pw_summary.specs.declared.summary.Summary.{Summary}
 use Rattle.pw_image.specs.declared.image.Image.{Image}
 use Rattle.pw_machine.specs.Core.{Core}
 use Rattle.pw_top_answer.specs.declared.answer.Answer.{Answer}
-use Rattle.pw_top_answer.specs.declared.answer.Answer.TheVariants.{Usage, Refused, RefusedSource, Cpp, LinkRefused, ReadFault, WriteFault, StoreFault, NoMemory, BadFile, Undefined}
+use Rattle.pw_top_answer.specs.declared.answer.Answer.TheVariants.{Usage, Refused, RefusedSource, Cpp, LinkRefused, ReadFault, WriteFault, StoreFault, NoMemory, BadFile, Undefined, UndefinedSource}
 use Rattle.pw_top_answer.specs.Effects.{Effect, NamedFile, PutsFiles, answers_alone, prints}
 use Rattle.pw_top_answer.specs.Outcomes.{Answers, InputCount, IsLineDue, LeavesInput, LeavesStreams, OutputCount, PutsOut}
 use Rattle.pw_go.specs.Ends.{EndsIn}
 use Rattle.pw_build_opts.specs.declared.opts.Opts.{Opts}
 use Rattle.pw_build_opts.specs.declared.opts.RunOpts.{RunOpts}
 use Rattle.pw_law_session.specs.FromSession.FromBuild.BuildFault.{BuildFault}
-use Rattle.pw_law_session.specs.FromSession.FromBuildFiles.Building.{BuildOutcome, Outcome, puts_of}
+use Rattle.pw_law_session.specs.FromSession.FromBuildFiles.Building.{Outcome, puts_of}
+use Rattle.pw_law_session.specs.FromSession.FromBuildFiles.Seen.{SeenOutcome}
 use Rattle.pw_law_session.specs.FromSession.FromBuildFiles.Outcomes.{AnswersOutcome}
 use Rattle.pw_law_session.specs.FromSession.FromBuildFiles.Driving.{BuildEffect, IsBuildAnswer, built_effect}
 use Rattle.pw_go.specs.Going.{GoEffect, HasBuilt, IfMade, IsGoAnswer}
@@ -35,8 +37,10 @@ use Rattle.pw_law_session.specs.FromSession.Bench.{BenchEffect}
 use Rattle.pw_top_words.specs.declared.commands.Command.{Command}
 use Rattle.pw_top_words.specs.declared.commands.Command.TheVariants.{Go, Build as BuildAll, Session, PhaseOne, Analyse, PhaseTwo, Link, Run, List as ListImage, Db, Bench, Where, Preprocess, Interp}
 use Rattle.pw_store_texts.specs.Headers.{headers_of}
-use Rattle.pw_commands_cpp.specs.Command.{CppEffect, CppOver, IsCppAnswer, effect_of, needed_source}
-use Rattle.pw_commands_phases.specs.First.{EffectOfPhase, PhaseOneEffect, PhaseOneOver}
+use Rattle.pw_store_texts.specs.Names.{source_name}
+use Rattle.pw_store_texts.specs.Outputs.{Output}
+use Rattle.pw_commands_cpp.specs.Command.{CppEffect, CppOver, IsCppAnswer, cpp_fault, effect_of, needed_source}
+use Rattle.pw_commands_phases.specs.First.{EffectBy, EffectOfOutput, EffectOfPhase, EffectOfSource, PhaseOneEffect, PhaseOneOver}
 use Rattle.pw_commands_phases.specs.Made.{IsPhaseAnswer}
 use Rattle.pw_commands_phases.specs.Second.{PhaseTwoEffect, PhaseTwoOver, database_at, flow_at}
 use Rattle.pw_top.specs.Answers.{IsNoUsage}
@@ -98,9 +102,21 @@ phase_quiet : (name : List ℕ) (o : Bool) (phase : Phase) (input : List ℕ) (e
 phase_quiet name o (Err refusal) input e h = quiet_answer (Refused name refusal) input e h
 phase_quiet name o (Ok flow) input e h = subst (Quiet input) (sym h.3) (record { output = refl; rest = refl })
 
-phase_one_quiet : (name : List ℕ) (o : Bool) (text : Result (List ℕ) Answer) (input : List ℕ) (e : Effect) → PhaseOneOver name o text input e → Quiet input e
-phase_one_quiet name o (Err answer) input e h = quiet_answer answer input e h
-phase_one_quiet name o (Ok text) input e h = phase_quiet name o (compiled name text) input e h
+text_quiet : (name : List ℕ) (o : Bool) (text : Result (List ℕ) Answer) (input : List ℕ) (e : Effect) → PhaseOneOver name o text input e → Quiet input e
+text_quiet name o (Err answer) input e h = quiet_answer answer input e h
+text_quiet name o (Ok text) input e h = phase_quiet name o (compiled name text) input e h
+
+source_quiet : (name : List ℕ) (o : Bool) (phase : Phase) (input : List ℕ) (e : Effect) → EffectOfSource name o phase input e → Quiet input e
+source_quiet name o (Err refusal) input e h = quiet_answer (RefusedSource name refusal) input e h
+source_quiet name o (Ok flow) input e h = phase_quiet name o (Ok flow) input e h
+
+phase_output_quiet : (name : List ℕ) (o : Bool) (output : Output) (input : List ℕ) (e : Effect) → EffectOfOutput name o output input e → Quiet input e
+phase_output_quiet name o (Ok text) input e h = source_quiet name o (compiled name text) input e h
+phase_output_quiet name o (Err fault) input e h = quiet_answer (Cpp (cpp_fault fault)) input e h
+
+phase_one_quiet : (files : Files) (name : List ℕ) (o : Bool) (source : Option (List ℕ)) (input : List ℕ) (e : Effect) → EffectBy files name o source input e → Quiet input e
+phase_one_quiet files name o None input e h = text_quiet name o (needed_bytes files (text_name name)) input e h
+phase_one_quiet files name o (Some text) input e h = phase_output_quiet name o h.0 input e h.2
 
 phase_two_quiet : (name : List ℕ) (flow : Result FlowModule Answer) (db : Result (List (List ℕ × Directives)) Answer) (input : List ℕ) (e : Effect) → PhaseTwoOver name flow db input e → Quiet input e
 phase_two_quiet name (Err answer) db input e h = quiet_answer answer input e h
@@ -116,7 +132,7 @@ store_does comes (Some t) new (Some input) taken answer quiet h = quiet_does (co
 pub phase_one_does : (told new : Option Told) (rest taken : Option (List ℕ)) (name : List ℕ) (o : Bool) (answer : Answer) → IfSome told (λ t. (input : List ℕ) → Obeys (PhaseOneEffect t.files name o input) answer t new)
     → IfSome told (λ t. IfSome rest (λ input. Does (PhaseOneEffect t.files name o input) answer t new input rest taken taken))
 phase_one_does told new rest taken name o answer h =
-    store_does (λ files input. PhaseOneEffect files name o input) told new rest taken answer (λ files input e d. phase_one_quiet name o (needed_bytes files (text_name name)) input e d) h
+    store_does (λ files input. PhaseOneEffect files name o input) told new rest taken answer (λ files input e d. phase_one_quiet files name o (finite.get files (source_name name)) input e d) h
 
 pub cpp_does : (told new : Option Told) (rest taken : Option (List ℕ)) (name : List ℕ) (answer : Answer) → IfSome told (λ t. (input : List ℕ) → Obeys (CppEffect t.files name input) answer t new)
     → IfSome told (λ t. IfSome rest (λ input. Does (CppEffect t.files name input) answer t new input rest taken taken))
@@ -214,7 +230,7 @@ build_does (Some t) new (Some input) taken taken' opts answer h out =
     built_does (BuildEffect t.files opts input) answer t new input taken taken' (λ e d. comes_rest t.files opts input e d) (h input) (λ e d. out input e d)
 
 -- what `build` built, whatever the input tells
-built_found : (files : Files) (opts : Opts) (answer : Answer) → IsFound (BuildEffect files opts []) answer → IfMade answer ((comes : Result Outcome BuildFault) × BuildOutcome files opts comes)
+built_found : (files : Files) (opts : Opts) (answer : Answer) → IsFound (BuildEffect files opts []) answer → IfMade answer ((comes : Result Outcome BuildFault) × SeenOutcome files opts comes)
 built_found files opts StoreFault h = tt
 built_found files opts NoMemory h = tt
 built_found files opts _ h = let c = h.1 in (c.0, c.1)
@@ -224,7 +240,7 @@ built_puts (Ok outcome) = refl
 built_puts (Err fault) = refl
 
 has_built : (opts : Opts) (answer : Answer) (told : Told) (new : Option Told) → Obeys (BuildEffect told.files opts []) answer told new
-    → ((comes : Result Outcome BuildFault) → BuildOutcome told.files opts comes → AnswersOutcome comes answer) → HasBuilt opts answer told new
+    → ((comes : Result Outcome BuildFault) → SeenOutcome told.files opts comes → AnswersOutcome comes answer) → HasBuilt opts answer told new
 has_built opts answer told new h refusal = record {
   found = built_found told.files opts answer h.found;
   answers = refusal;
@@ -233,7 +249,7 @@ has_built opts answer told new h refusal = record {
 
 pub build_built : (told new : Option Told) (opts : Opts) (answer : Answer)
     → IfSome told (λ t. (input : List ℕ) → Obeys (BuildEffect t.files opts input) answer t new)
-    → IfSome told (λ t. (comes : Result Outcome BuildFault) → BuildOutcome t.files opts comes → AnswersOutcome comes answer)
+    → IfSome told (λ t. (comes : Result Outcome BuildFault) → SeenOutcome t.files opts comes → AnswersOutcome comes answer)
     → IfSome told (λ t. HasBuilt opts answer t new)
 build_built None new opts answer h refusal = tt
 build_built (Some t) new opts answer h refusal = has_built opts answer t new (h []) refusal
@@ -280,7 +296,7 @@ interp_does None new old rest taken taken' opts answer same h = tt
 interp_does (Some t) new None rest taken taken' opts answer same h = tt
 interp_does (Some t) new (Some input) rest taken taken' opts answer same h = record {
   answers = λ e d. h.answers e d;
-  puts = λ e d. subst (λ (fs : List NamedFile). PutsFiles fs answer t new) (sym (interp_over_puts t.files opts input d.0 e d.2)) (nothing_put answer t new same);
+  puts = λ e d. subst (λ (fs : List NamedFile). PutsFiles fs answer t new) (sym (ap (λ (x : Effect). x.puts) d.2 ∙ interp_over_puts d.1.0 opts input d.1.2.0 d.0 d.1.2.2)) (nothing_put answer t new same);
   output = λ e d. h.output e d;
   rest = λ e d. h.rest e d;
   found = h.found;
@@ -318,7 +334,7 @@ comes_ends ends (Some (BuildAll opts)) files input e h = left_all input e (comes
 comes_ends ends (Some (Session opts)) files input e h = absurd h
 comes_ends ends (Some (Bench number opts)) files input e h = left_all input e (bench_prints number opts input e h).rest
 comes_ends ends (Some (Preprocess name)) files input e h = left_all input e (cpp_quiet files name input e h).rest
-comes_ends ends (Some (PhaseOne name optimise)) files input e h = left_all input e (phase_one_quiet name optimise (needed_bytes files (text_name name)) input e h).rest
+comes_ends ends (Some (PhaseOne name optimise)) files input e h = left_all input e (phase_one_quiet files name optimise (finite.get files (source_name name)) input e h).rest
 comes_ends ends (Some (Analyse colours)) files input e h = left_all input e (analyse_quiet (summaries_of files) colours input e h).rest
 comes_ends ends (Some (PhaseTwo name)) files input e h = left_all input e (phase_two_quiet name (needed flow_at files (flow_name name)) (needed database_at files database_name) input e h).rest
 comes_ends ends (Some (Link stack)) files input e h = left_all input e (link_quiet (objects_of files) stack input e h).rest
@@ -402,6 +418,7 @@ first_line : (answer : Answer) → IsLineDue None answer None
 first_line (Refused name refusal) = refl
 first_line (RefusedSource name refusal) = refl
 first_line (Undefined operation home token) = refl
+first_line (UndefinedSource operation home token) = refl
 first_line _ = tt
 
 -- an answer of a command that refuses no module

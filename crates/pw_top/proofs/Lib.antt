@@ -9,3 +9,4 @@ pub mod MeantLemmas
 pub mod CompleteLemmas
 pub mod ProperLemmas
 pub mod RestLemmas
+pub mod TellingLemmas

@@ -22,14 +22,15 @@ use Rattle.pw_law_session.specs.FromMeaning.Meaning.{Means, runs_of}
 use Rattle.pw_law_session.specs.FromSession.FromBuild.BuildFault.{BuildFault}
 use Rattle.pw_law_session.specs.FromSession.FromBuild.BuildFault.TheVariants as build
 use Rattle.pw_law_session.specs.FromSession.FromBuildFiles.Full.{BuildsImage}
-use Rattle.pw_law_session.specs.FromSession.FromBuildFiles.Building.{BuildOutcome, Outcome}
+use Rattle.pw_law_session.specs.FromSession.FromBuildFiles.Building.{Outcome}
+use Rattle.pw_law_session.specs.FromSession.FromBuildFiles.Seen.{SeenOutcome}
 use Rattle.pw_law_session.specs.FromSession.FromBuildFiles.Genuine.{KeepsGenuine}
 use Rattle.pw_law_session.specs.FromSession.FromBuildFiles.Outcomes.{AreOpts, fault_answer}
 use Rattle.pw_build_opts.specs.declared.opts.RunOpts.{RunOpts}
 use Rattle.pw_go.specs.Going.{GoEffect, GoOver, HasBuilt, run_from}
 use Rattle.pw_top.specs.Behind.{RunsBehindBuild}
 use Rattle.pw_top.specs.Does.{Does}
-use Rattle.pw_top.specs.Meant.{AnswersProgram, AnswersRun, EndsAsRun, PutsFront, WasRun}
+use Rattle.pw_top.specs.Meant.{AnswersProgram, AnswersSeen, AnswersRun, EndsAsRun, PutsFront, WasRun}
 use Rattle.pw_top.proofs.WholeLemmas.{BuildsAreFull, FullAt, full_at}
 use Rattle.pw_top.proofs.BehindLemmas.{Built, Fronts, built_of, run_stands, stands}
 
@@ -161,15 +162,19 @@ no_refusal fault NoMemory was h = was
 no_refusal fault answer was h = refused fault answer was h
 
 over_program : OneImage → (opts : RunOpts) → FullAt opts.build → (comes : Result Outcome BuildFault) (e : Effect) (answer : Answer) (told : Told) (new : Option Told) (input : List ℕ) (input' taken taken' : Option (List ℕ)) → KeepsGenuine told.files → AreBytes input → WasRun answer
-    → HasBuilt opts.build answer told new → BuildOutcome told.files opts.build comes → GoOver opts.budget input comes e → Answers e.answer answer → PutsOut e.output answer taken taken' → LeavesInput e.rest input answer input'
-    → AnswersProgram (module_map told.files) opts answer input input' taken taken'
+    → HasBuilt opts.build answer told new → SeenOutcome told.files opts.build comes → GoOver opts.budget input comes e → Answers e.answer answer → PutsOut e.output answer taken taken' → LeavesInput e.rest input answer input'
+    → AnswersSeen told.files opts answer input input' taken taken'
 over_program one opts full (Ok outcome) e answer told new input input' taken taken' keeps bytes was h b over a puts left =
-    of_image one (module_map told.files) opts outcome.image over.0 answer input input' taken taken' (full told (Ok outcome) keeps b).0.0 (full told (Ok outcome) keeps b).0.1 over.1 bytes was
-    (subst (λ (x : Effect). Answers x.answer answer) over.2 a) (subst (λ (x : Effect). PutsOut x.output answer taken taken') over.2 puts) (subst (λ (x : Effect). LeavesInput x.rest input answer input') over.2 left)
+    let f = full told (Ok outcome) keeps b in (
+      f.0,
+      f.1,
+      of_image one (module_map f.0) opts outcome.image over.0 answer input input' taken taken' f.2.0 f.2.1 over.1 bytes was
+          (subst (λ (x : Effect). Answers x.answer answer) over.2 a) (subst (λ (x : Effect). PutsOut x.output answer taken taken') over.2 puts) (subst (λ (x : Effect). LeavesInput x.rest input answer input') over.2 left),
+    )
 over_program one opts full (Err fault) e answer told new input input' taken taken' keeps bytes was h b over a puts left = absurd (no_refusal fault answer was (h.answers (Err fault) b))
 
 pub go_program : BuildsAreFull → OneImage → (opts : RunOpts) (answer : Answer) (told : Told) (new : Option Told) (input : List ℕ) (input' taken taken' : Option (List ℕ)) → AreOpts opts.build → KeepsGenuine told.files → AreBytes input → WasRun answer
-    → HasBuilt opts.build answer told new → Does (GoEffect told.files opts input) answer told new input input' taken taken' → AnswersProgram (module_map told.files) opts answer input input' taken taken'
+    → HasBuilt opts.build answer told new → Does (GoEffect told.files opts input) answer told new input input' taken taken' → AnswersSeen told.files opts answer input input' taken taken'
 go_program law one opts answer told new input input' taken taken' are keeps bytes was h d =
     let found = found_some (GoEffect told.files opts input) answer was d.found in
     let c = found.1 in
@@ -178,17 +183,21 @@ go_program law one opts answer told new input input' taken taken' are keeps byte
 -- ---- a run behind a build
 
 ran_program : Fronts → OneImage → (opts : RunOpts) (answer : Answer) (told : Told) (new : Option Told) (input : List ℕ) (input' taken taken' : Option (List ℕ)) (h : RunsBehindBuild opts answer told new input input' taken taken') → Built opts.build told h.left → AreBytes input → WasRun answer
-    → AnswersProgram (module_map told.files) opts answer input input' taken taken'
+    → AnswersSeen told.files opts answer input input' taken taken'
 ran_program fronts one opts answer told new input input' taken taken' h built bytes was =
     let outcome = built.some.0 in
     let b = built.some.1 in
-    let means : Means (module_map told.files) opts.build outcome.image = (built.law told (Ok outcome) built.keeps b).0.1 in
+    let full = built.law told (Ok outcome) built.keeps b in
+    let means : Means (module_map full.0) opts.build outcome.image = full.2.1 in
     let is : run_effect h.left.files opts.budget input ≡ ran (run_from opts.budget input means.contents) = run_stands fronts h.left.files outcome.image means.contents opts.budget input h.short (stands opts.build told h.left built outcome b) means.file in
-    let run = run_effect h.left.files opts.budget input in
-    of_image one (module_map told.files) opts outcome.image means.contents answer input input' taken taken' (built.law told (Ok outcome) built.keeps b).0.0 means means.file bytes was
-    (subst (λ (x : Effect). Answers x.answer answer) is (h.ran.answers run refl)) (subst (λ (x : Effect). PutsOut x.output answer taken taken') is (h.ran.output run refl)) (subst (λ (x : Effect). LeavesInput x.rest input answer input') is (h.ran.rest run refl))
+    let run = run_effect h.left.files opts.budget input in (
+      full.0,
+      full.1,
+      of_image one (module_map full.0) opts outcome.image means.contents answer input input' taken taken' full.2.0 means means.file bytes was
+          (subst (λ (x : Effect). Answers x.answer answer) is (h.ran.answers run refl)) (subst (λ (x : Effect). PutsOut x.output answer taken taken') is (h.ran.output run refl)) (subst (λ (x : Effect). LeavesInput x.rest input answer input') is (h.ran.rest run refl)),
+    )
 
 pub behind_program : BuildsAreFull → Fronts → OneImage → (opts : RunOpts) (answer : Answer) (told : Told) (new : Option Told) (input : List ℕ) (input' taken taken' : Option (List ℕ)) → RunsBehindBuild opts answer told new input input' taken taken' → AreBytes input → WasRun answer
-    → AnswersProgram (module_map told.files) opts answer input input' taken taken'
+    → AnswersSeen told.files opts answer input input' taken taken'
 behind_program law fronts one opts answer told new input input' taken taken' h bytes was =
     ran_program fronts one opts answer told new input input' taken taken' h (built_of opts.build (full_at law opts.build h.are) told h.left h.genuine h.built) bytes was

@@ -58,8 +58,8 @@ bench_proper _ h = tt
 
 pub phase_proper : (answer : Answer) → IsPhaseAnswer answer → HoldsNoWantOfMemory answer
 phase_proper (Refused name refusal) h = h
-phase_proper (RefusedSource name refusal) h = absurd h
-phase_proper (Cpp fault) h = absurd h
+phase_proper (RefusedSource name refusal) h = h
+phase_proper (Cpp fault) h = h
 phase_proper (LinkRefused fault) h = absurd h
 phase_proper _ h = tt
 

@@ -3,17 +3,15 @@ use Rattle.std.proofs.Common.{◌≡◌, ℕ, List, [], Option, Some, None, Resu
 use Rattle.std.specs.Prelude.{IfSome, IsSomeAnd}
 use Rattle.pw_io.specs.Files.{Told}
 use Rattle.pw_top_answer.specs.declared.answer.Answer.{Answer}
-use Rattle.pw_top_answer.specs.declared.answer.Answer.TheVariants.{Done, Usage, Refused, RefusedSource, Cpp, LinkRefused, Halted, ReadFault, WriteFault, StoreFault, NoMemory, BadFile, BadScript, NoFrames, Undefined}
+use Rattle.pw_top_answer.specs.declared.answer.Answer.TheVariants.{Done, Usage, Refused, RefusedSource, Cpp, LinkRefused, Halted, ReadFault, WriteFault, StoreFault, NoMemory, BadFile, BadScript, NoFrames, Undefined, UndefinedSource}
 use Rattle.pw_top_answer.specs.Answers.{NeedsMemory}
 use Rattle.pw_top_answer.specs.Effects.{Effect, NamedFile, PutsFiles}
-use Rattle.pw_top_answer.specs.Outcomes.{InputCount, IsLineDue, StoreCount}
-use Rattle.pw_store_modules.specs.Modules.{modules_of}
-use Rattle.pw_law_session.specs.FromSession.FromBuild.Phases.{refused_line}
+use Rattle.pw_top_answer.specs.Outcomes.{InputCount, StoreCount}
 use Rattle.pw_law_session.specs.FromSession.FromBuild.BuildFault.{BuildFault}
 use Rattle.pw_law_session.specs.FromSession.FromBuildFiles.Building.{Outcome}
 use Rattle.pw_commands.specs.Outcome.{IsFound}
 use Rattle.pw_build_opts.specs.declared.opts.RunOpts.{RunOpts}
-use Rattle.pw_law_session.specs.FromSession.Bench.{BenchEffect, BenchOver, IsBenchAnswer, IsBenchFound, IsBenchLine, ObeysBench, bench_files}
+use Rattle.pw_law_session.specs.FromSession.Bench.{BenchEffect, BenchOver, IsBenchAnswer, IsBenchFound, IsBenchLine, ObeysBench}
 use Rattle.pw_law_session.specs.FromSession.Changes.{Change, ChangePrefix, MakesChanges, MakesSome}
 use Rattle.pw_top.specs.Answers.{IsNoUsage}
 use Rattle.pw_top.specs.Rest.{LeavesRest}
@@ -75,6 +73,7 @@ some_memory may (BadFile name at) told new n h = h
 some_memory may (BadScript at) told new n h = h
 some_memory may (NoFrames address) told new n h = h
 some_memory may (Undefined operation home token) told new n h = h
+some_memory may (UndefinedSource operation home token) told new n h = h
 some_memory may _ told new n h = absurd n
 
 -- ---- want of memory in place of the answer's line
@@ -89,6 +88,7 @@ changes_front changes (BadFile name at) told new n h = record { done = changes; 
 changes_front changes (BadScript at) told new n h = record { done = changes; more = []; split = sym (append-nil changes); left = h }
 changes_front changes (NoFrames address) told new n h = record { done = changes; more = []; split = sym (append-nil changes); left = h }
 changes_front changes (Undefined operation home token) told new n h = record { done = changes; more = []; split = sym (append-nil changes); left = h }
+changes_front changes (UndefinedSource operation home token) told new n h = record { done = changes; more = []; split = sym (append-nil changes); left = h }
 changes_front changes _ told new n h = absurd n
 
 leaves_part : (script : List ℕ) (answer : Answer) (rest : Option (List ℕ)) → NeedsMemory answer → LeavesScript script answer rest → LeavesScript script NoMemory rest
@@ -160,12 +160,6 @@ pub bench_stores : (count : ℕ) (answer : Answer) → IsBenchAnswer answer → 
 bench_stores count StoreFault h = absurd h
 bench_stores count _ h = refl
 
-bench_due : (number : ℕ) (answer : Answer) (line : Option ℕ) → IsBenchLine number answer line → IsLineDue (refused_line (modules_of (bench_files number))) answer line
-bench_due number (Refused name refusal) line h = h
-bench_due number (RefusedSource name refusal) line h = h
-bench_due number (Undefined operation home token) line h = h
-bench_due number _ line h = tt
-
-pub bench_line : (told : Option Told) (number : ℕ) (answer : Answer) (line : Option ℕ) → IsBenchLine number answer line → IfSome told (λ t. IsLineDue (refused_line (modules_of (bench_files number))) answer line)
+pub bench_line : (told : Option Told) (number : ℕ) (answer : Answer) (line : Option ℕ) → IsBenchLine number answer line → IfSome told (λ t. IsBenchLine number answer line)
 bench_line None number answer line h = tt
-bench_line (Some t) number answer line h = bench_due number answer line h
+bench_line (Some t) number answer line h = h

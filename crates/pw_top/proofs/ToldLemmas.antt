@@ -1,15 +1,11 @@
 -- What holds of the answer that is told: it is the answer, or want of memory for its line.
-use Rattle.std.proofs.Common.{◌≡◌, ℕ, ◌⊎◌, ⊎_elim, inl, inr, List, [], Option, Some, None, Result, Ok, Err, refl, sym, ap, ◌∙◌, subst, append-nil}
+use Rattle.std.proofs.Common.{◌≡◌, ℕ, ◌⊎◌, ⊎_elim, inl, inr, List, [], Option, Some, None, Result, Ok, Err, refl, sym, ◌∙◌, subst}
 use Rattle.std.specs.Prelude.{IfSome}
-use Rattle.pw_io.specs.Files.{Files, Told}
-use Rattle.pw_cmean.specs.declared.undefined.Undef.{Undef}
-use Rattle.pw_front_end.specs.declared.refusal.Refusal.{Refusal}
+use Rattle.pw_io.specs.Files.{Told}
 use Rattle.pw_top_answer.specs.declared.answer.Answer.{Answer}
-use Rattle.pw_top_answer.specs.declared.answer.Answer.TheVariants.{Usage, Refused, RefusedSource, Cpp, LinkRefused, Halted, StoreFault, NoMemory, BadFile, BadScript, NoFrames, Undefined}
-use Rattle.pw_top_answer.specs.Answers.{line_text, NeedsMemory}
-use Rattle.pw_top_answer.specs.Effects.{Effect, NamedFile, PutsFiles, PutPrefix}
-use Rattle.pw_top_answer.specs.Outcomes.{Answers, InputCount, IsLineDue, LeavesInput, LeavesStreams, OutputCount, StoreCount, ToldAs, WasReadInPart}
-use Rattle.pw_go.specs.Ends.{EndsIn}
+use Rattle.pw_top_answer.specs.declared.answer.Answer.TheVariants.{Usage, Refused, RefusedSource, Cpp, LinkRefused, Halted, StoreFault, NoMemory, BadFile, BadScript, NoFrames, Undefined, UndefinedSource}
+use Rattle.pw_top_answer.specs.Answers.{NeedsMemory}
+use Rattle.pw_top_answer.specs.Outcomes.{InputCount, LeavesStreams, OutputCount, StoreCount, ToldAs}
 use Rattle.pw_commands.specs.Others.{KeepsOthers}
 use Rattle.pw_law_session.specs.FromSession.FromBuild.BuildFault.{BuildFault}
 use Rattle.pw_law_session.specs.FromSession.FromBuildFiles.Building.{Outcome, puts_of}
@@ -22,19 +18,10 @@ use Rattle.pw_law_session.specs.FromSession.FromBuildFiles.Driving.{KeepsUnput, 
 use Rattle.pw_law_session.specs.FromSession.Removals.{MayRemove}
 use Rattle.pw_top.specs.Answers.{HoldsNoWantOfMemory}
 use Rattle.pw_top.specs.Commands.{BuildsFirst, EndsScript, KeepsTheRest, files_put}
-use Rattle.pw_top.specs.Does.{Does, DoesAs}
-use Rattle.pw_top.proofs.DoesLemmas.{memory_here, out_part}
-use Rattle.pw_top.proofs.SessionLemmas.{left_memory, session_memory_here, session_no_memory, some_memory}
+use Rattle.pw_top.specs.Does.{DoesAs}
+use Rattle.pw_top.proofs.DoesLemmas.{memory_here}
+use Rattle.pw_top.proofs.SessionLemmas.{left_memory, session_memory_here, some_memory}
 use Rattle.pw_top.proofs.CommandLemmas.{Comes, Ends, comes_ends}
-
-refused_is_some_memory : (name : List ℕ) (refusal : Refusal) → Refused name refusal ≡ NoMemory → ⊥
-refused_is_some_memory name refusal e = cc
-
-source_is_some_memory : (name : List ℕ) (refusal : Refusal) → RefusedSource name refusal ≡ NoMemory → ⊥
-source_is_some_memory name refusal e = cc
-
-operation_is_some_memory : (operation : Undef) (home : List ℕ) (token : ℕ) → Undefined operation home token ≡ NoMemory → ⊥
-operation_is_some_memory operation home token e = cc
 
 pub no_memory_is_no_usage : NoMemory ≡ Usage → ⊥
 no_memory_is_no_usage e = cc
@@ -57,50 +44,7 @@ usage_told answer told t h = ⊎_elim {C = (told ≡ Usage) ⊎ (told ≡ NoMemo
 pub usage_comes : (answer told : Answer) (P : Type 0) → ToldAs answer told → (P → (answer ≡ Usage) ⊎ (answer ≡ NoMemory)) → P → (told ≡ Usage) ⊎ (told ≡ NoMemory)
 usage_comes answer told P t h p = usage_told answer told t (h p)
 
--- ---- what the call did
-
-puts_all : (answer : Answer) (files : List NamedFile) (told : Told) (new : Option Told) → NeedsMemory answer → PutsFiles files answer told new → PutPrefix told files new
-puts_all (Refused name refusal) files told new n h = record { done = files; more = []; split = sym (append-nil files); left = h }
-puts_all (RefusedSource name refusal) files told new n h = record { done = files; more = []; split = sym (append-nil files); left = h }
-puts_all (Cpp fault) files told new n h = record { done = files; more = []; split = sym (append-nil files); left = h }
-puts_all (LinkRefused fault) files told new n h = record { done = files; more = []; split = sym (append-nil files); left = h }
-puts_all (Halted halt at) files told new n h = record { done = files; more = []; split = sym (append-nil files); left = h }
-puts_all (BadFile name at) files told new n h = record { done = files; more = []; split = sym (append-nil files); left = h }
-puts_all (BadScript at) files told new n h = record { done = files; more = []; split = sym (append-nil files); left = h }
-puts_all (NoFrames address) files told new n h = record { done = files; more = []; split = sym (append-nil files); left = h }
-puts_all (Undefined operation home token) files told new n h = record { done = files; more = []; split = sym (append-nil files); left = h }
-puts_all _ files told new n h = absurd n
-
-part_of_wanted : (input wanted : List ℕ) (new : Option (List ℕ)) → EndsIn input wanted → new ≡ Some wanted → WasReadInPart wanted input new
-part_of_wanted input wanted new e h = let P : Option (List ℕ) → Type 0 = λ o. WasReadInPart wanted input o in subst P (sym h) (e.0, [], (e.1, refl))
-
-left_part : (input wanted : List ℕ) (new : Option (List ℕ)) (answer : Answer) → EndsIn input wanted → NeedsMemory answer → LeavesInput wanted input answer new → WasReadInPart wanted input new
-left_part input wanted new (Refused name refusal) e n h = part_of_wanted input wanted new e h
-left_part input wanted new (RefusedSource name refusal) e n h = part_of_wanted input wanted new e h
-left_part input wanted new (Cpp fault) e n h = part_of_wanted input wanted new e h
-left_part input wanted new (LinkRefused fault) e n h = part_of_wanted input wanted new e h
-left_part input wanted new (Halted halt at) e n h = part_of_wanted input wanted new e h
-left_part input wanted new (BadFile name at) e n h = part_of_wanted input wanted new e h
-left_part input wanted new (BadScript at) e n h = part_of_wanted input wanted new e h
-left_part input wanted new (NoFrames address) e n h = part_of_wanted input wanted new e h
-left_part input wanted new (Undefined operation home token) e n h = part_of_wanted input wanted new e h
-left_part input wanted new _ e n h = absurd n
-
-does_no_memory : (comes : Effect → Type 0) (answer : Answer) (told : Told) (new : Option Told) (input : List ℕ) (rest taken taken' : Option (List ℕ)) → ((e : Effect) → comes e → EndsIn input e.rest) → NeedsMemory answer
-    → Does comes answer told new input rest taken taken' → Does comes NoMemory told new input rest taken taken'
-does_no_memory comes answer told new input rest taken taken' ends n h = record {
-  answers = λ e d. tt;
-  puts = λ e d. puts_all answer e.puts told new n (h.puts e d);
-  output = λ e d. out_part e.output answer taken taken' (h.output e d);
-  rest = λ e d. left_part input e.rest rest answer (ends e d) n (h.rest e d);
-  found = tt;
-}
-
-as_no_memory : Ends → (command : Option Command) (answer : Answer) (told : Told) (new : Option Told) (input : List ℕ) (rest taken taken' : Option (List ℕ)) → NeedsMemory answer
-    → DoesAs command answer told new input rest taken taken' → DoesAs command NoMemory told new input rest taken taken'
-as_no_memory ends (Some (Session opts)) answer told new input rest taken taken' n h = session_no_memory opts answer told new input rest taken taken' n h
-as_no_memory ends command answer told new input rest taken taken' n h =
-    does_no_memory (Comes command told.files input) answer told new input rest taken taken' (λ e c. comes_ends ends command told.files input e c) n h
+-- ---- want of memory before the call did anything
 
 memory_as : Ends → (command : Option Command) (told : Told) (input : List ℕ) (taken : Option (List ℕ)) → DoesAs command NoMemory told (Some told) input (Some input) taken taken
 memory_as ends (Some (Session opts)) told input taken = session_memory_here opts told input taken
@@ -110,14 +54,6 @@ pub memory_does : Ends → (command : Option Command) (told : Option Told) (rest
 memory_does ends command None rest taken = tt
 memory_does ends command (Some t) None taken = tt
 memory_does ends command (Some t) (Some input) taken = memory_as ends command t input taken
-
-pub told_does : Ends → (command : Option Command) (first new : Option Told) (old rest taken taken' : Option (List ℕ)) (answer last : Answer) → ToldAs answer last
-    → IfSome first (λ t. IfSome old (λ input. DoesAs command answer t new input rest taken taken'))
-    → IfSome first (λ t. IfSome old (λ input. DoesAs command last t new input rest taken taken'))
-told_does ends command None new old rest taken taken' answer last t h = tt
-told_does ends command (Some now) new None rest taken taken' answer last t h = tt
-told_does ends command (Some now) new (Some input) rest taken taken' answer last t h =
-    told_by (λ a. DoesAs command a now new input rest taken taken') answer last t h (λ n d. as_no_memory ends command answer now new input rest taken taken' n d)
 
 -- ---- the end of a session
 
@@ -153,24 +89,6 @@ pub memory_builds : (command : Option Command) (told : Option Told) → IfSome t
 memory_builds command None = tt
 memory_builds command (Some t) = builds_nothing command t
 
--- or for the line of the answer
-built_memory : (opts : Opts) (answer : Answer) (told : Told) (new : Option Told) → NeedsMemory answer → HasBuilt opts answer told new → HasBuilt opts NoMemory told new
-built_memory opts answer told new n h = record {
-  found = tt;
-  answers = λ comes b. comes_no_memory comes;
-  puts = λ comes b. puts_all answer (puts_of comes) told new n (h.puts comes b);
-}
-
-builds_memory : (command : Option Command) (answer : Answer) (told : Told) (new : Option Told) → NeedsMemory answer → BuildsFirst command answer told new → BuildsFirst command NoMemory told new
-builds_memory (Some (Go opts)) answer told new n h = built_memory opts.build answer told new n h
-builds_memory (Some (Where k opts)) answer told new n h = built_memory opts.build answer told new n h
-builds_memory (Some (BuildAll opts)) answer told new n h = built_memory opts answer told new n h
-builds_memory command answer told new n h = tt
-
-pub told_builds : (command : Option Command) (first new : Option Told) (answer last : Answer) → ToldAs answer last → IfSome first (λ t. BuildsFirst command answer t new) → IfSome first (λ t. BuildsFirst command last t new)
-told_builds command None new answer last t h = tt
-told_builds command (Some now) new answer last t h = told_by (λ a. BuildsFirst command a now new) answer last t h (λ n b. builds_memory command answer now new n b)
-
 pub told_proper : (answer last : Answer) → ToldAs answer last → HoldsNoWantOfMemory answer → HoldsNoWantOfMemory last
 told_proper answer last t h = told_by HoldsNoWantOfMemory answer last t h (λ n x. tt)
 
@@ -189,6 +107,7 @@ store_told before now answer last t h = told_by (λ a. StoreCount before now a) 
     kept (BadScript at) n h = h
     kept (NoFrames address) n h = h
     kept (Undefined operation home token) n h = h
+    kept (UndefinedSource operation home token) n h = h
     kept _ n h = absurd n
 
 pub input_told : (before now : ℕ) (answer last : Answer) → ToldAs answer last → InputCount before now answer → InputCount before now last
@@ -204,6 +123,7 @@ input_told before now answer last t h = told_by (λ a. InputCount before now a) 
     kept (BadScript at) n h = h
     kept (NoFrames address) n h = h
     kept (Undefined operation home token) n h = h
+    kept (UndefinedSource operation home token) n h = h
     kept _ n h = absurd n
 
 pub output_told : (before now : ℕ) (answer last : Answer) → ToldAs answer last → OutputCount before now answer → OutputCount before now last
@@ -219,6 +139,7 @@ output_told before now answer last t h = told_by (λ a. OutputCount before now a
     kept (BadScript at) n h = h
     kept (NoFrames address) n h = h
     kept (Undefined operation home token) n h = h
+    kept (UndefinedSource operation home token) n h = h
     kept _ n h = absurd n
 
 pub streams_told : (P : Type 0) (answer last : Answer) (i i' o o' : Option (List ℕ)) → ToldAs answer last → (P → LeavesStreams answer i i' o o') → P → LeavesStreams last i i' o o'
@@ -255,28 +176,3 @@ rest_memory command script answer old new n h = puts_memory (files_put command) 
 
 pub rest_told : (command : Option Command) (script : Option (List ℕ)) (old new : Option Told) (answer last : Answer) → ToldAs answer last → KeepsTheRest command script answer old new → KeepsTheRest command script last old new
 rest_told command script old new answer last t h = told_by (λ a. KeepsTheRest command script a old new) answer last t h (λ n k. rest_memory command script answer old new n k)
-
--- ---- the line
-
-same_line : (due : Answer → Option ℕ) (answer last : Answer) (line : Option ℕ) → IsLineDue (due answer) answer line → ToldAs answer last → line_text line last ≡ line_text (due last) last
-same_line due answer (Refused name refusal) line l t =
-    ⊎_elim
-    (λ e. let P : Answer → Type 0 = λ a. IsLineDue (due a) a line in ap (λ n. line_text n (Refused name refusal)) (subst P (sym e) l))
-    (λ n. absurd (refused_is_some_memory name refusal n.1))
-    t
-same_line due answer (RefusedSource name refusal) line l t =
-    ⊎_elim
-    (λ e. let P : Answer → Type 0 = λ a. IsLineDue (due a) a line in ap (λ n. line_text n (RefusedSource name refusal)) (subst P (sym e) l))
-    (λ n. absurd (source_is_some_memory name refusal n.1))
-    t
-same_line due answer (Undefined operation home token) line l t =
-    ⊎_elim
-    (λ e. let P : Answer → Type 0 = λ a. IsLineDue (due a) a line in ap (λ n. line_text n (Undefined operation home token)) (subst P (sym e) l))
-    (λ n. absurd (operation_is_some_memory operation home token n.1))
-    t
-same_line due answer _ line l t = refl
-
-pub told_line : (due : Files → Answer → Option ℕ) (first : Option Told) (answer last : Answer) (line : Option ℕ) (Q : List ℕ → Type 0) → ToldAs answer last → IfSome first (λ t. IsLineDue (due t.files answer) answer line) → Q (line_text line last)
-    → IfSome first (λ t. Q (line_text (due t.files last) last))
-told_line due None answer last line Q t l h = tt
-told_line due (Some now) answer last line Q t l h = subst Q (same_line (due now.files) answer last line l t) h

@@ -2,13 +2,14 @@
 use Rattle.std.proofs.Common.{◌≡◌, ℕ, List, Option, Some, None, Result, Ok, Err, refl, sym, ap, ◌∙◌, subst}
 use Rattle.std.specs.Prelude.{IfSome}
 use Rattle.pw_io.specs.Files.{Files, Told}
-use Rattle.pw_store_modules.specs.Modules.{module_map}
+use Rattle.pw_store_modules.specs.Modules.{Texts, module_map}
 use Rattle.pw_top_answer.specs.declared.answer.Answer.{Answer}
 use Rattle.pw_top_answer.specs.declared.answer.Answer.TheVariants.{StoreFault, NoMemory}
 use Rattle.pw_top_answer.specs.Effects.{Effect, after_puts}
 use Rattle.pw_top_answer.specs.Outcomes.{Answers, LeavesInput, PutsOut}
 use Rattle.pw_law_session.specs.FromSession.FromBuild.BuildFault.{BuildFault}
-use Rattle.pw_law_session.specs.FromSession.FromBuildFiles.Building.{BuildOutcome, Outcome}
+use Rattle.pw_law_session.specs.FromSession.FromBuildFiles.Building.{Outcome}
+use Rattle.pw_law_session.specs.FromSession.FromBuildFiles.Seen.{SeenOutcome}
 use Rattle.pw_law_session.specs.FromSession.FromBuildFiles.Genuine.{KeepsGenuine}
 use Rattle.pw_law_session.specs.FromSession.FromBuildFiles.Outcomes.{AreOpts}
 use Rattle.pw_law_session.specs.FromSession.FromBuildFiles.Driving.{BuildEffect, built_effect}
@@ -29,7 +30,7 @@ use Rattle.pw_top.specs.Whole.{BenchesFull, ComesInFull, IfMade, InterpretsFull,
 -- ---- the laws
 
 abbrev pub BuildsAreFull : Type 0
-BuildsAreFull = (told : Told) (opts : Opts) (comes : Result Outcome BuildFault) → AreOpts opts → KeepsGenuine told.files → BuildOutcome told.files opts comes → IsBuiltInFull told opts comes
+BuildsAreFull = (told : Told) (opts : Opts) (comes : Result Outcome BuildFault) → AreOpts opts → KeepsGenuine told.files → SeenOutcome told.files opts comes → IsBuiltInFull told opts comes
 
 abbrev pub SessionsAreFull : Type 0
 SessionsAreFull = (opts : RunOpts) (told : Told) (script : List ℕ) → AreOpts opts.build → KeepsGenuine told.files → SessionBuildsInFull opts told script
@@ -42,43 +43,49 @@ InterpsAreFull = (files : Files) (opts : RunOpts) (input : List ℕ) (effect : E
 
 -- those of builds, of some options
 abbrev pub FullAt : Opts → Type 0
-FullAt opts = (told : Told) (comes : Result Outcome BuildFault) → KeepsGenuine told.files → BuildOutcome told.files opts comes → IsBuiltInFull told opts comes
+FullAt opts = (told : Told) (comes : Result Outcome BuildFault) → KeepsGenuine told.files → SeenOutcome told.files opts comes → IsBuiltInFull told opts comes
 
 pub full_at : BuildsAreFull → (opts : Opts) → AreOpts opts → FullAt opts
 full_at law opts are told comes keeps h = law told opts comes are keeps h
 
 -- ---- one effect
 
-left_full : (opts : Opts) (told : Told) (new one : Option Told) (full : Result (List ℕ) BuildFault) → new ≡ one → LeavesFull (module_map told.files) opts full told one → LeavesFull (module_map told.files) opts full told new
-left_full opts told new one full e h = subst (λ (o : Option Told). LeavesFull (module_map told.files) opts full told o) (sym e) h
+left_full : (opts : Opts) (texts : Texts) (told : Told) (new one : Option Told) (full : Result (List ℕ) BuildFault) → new ≡ one → LeavesFull texts opts full told one → LeavesFull texts opts full told new
+left_full opts texts told new one full e h = subst (λ (o : Option Told). LeavesFull texts opts full told o) (sym e) h
 
 -- `build`
-built_full : (opts : Opts) → FullAt opts → (comes : Result Outcome BuildFault) (told : Told) (new : Option Told) (input : List ℕ) (taken taken' : Option (List ℕ)) (answer : Answer) (e : Effect) → KeepsGenuine told.files → BuildOutcome told.files opts comes
+built_full : (opts : Opts) → FullAt opts → (comes : Result Outcome BuildFault) (told : Told) (new : Option Told) (input : List ℕ) (taken taken' : Option (List ℕ)) (answer : Answer) (e : Effect) → KeepsGenuine told.files → SeenOutcome told.files opts comes
     → e ≡ built_effect comes input → Answers e.answer answer → new ≡ Some (after_puts told e.puts) → PutsOut e.output answer taken taken' → ComesInFull opts told new (λ full. ReportsFull full answer taken taken')
 built_full opts law (Ok outcome) told new input taken taken' answer e keeps h is a put out =
     let full = law told (Ok outcome) keeps h in (
-      Ok outcome.image,
       full.0,
+      full.1,
+      Ok outcome.image,
+      full.2,
       (outcome, refl, subst (λ (x : Effect). Answers x.answer answer) is a, subst (λ (x : Effect). PutsOut x.output answer taken taken') is out),
-      left_full opts told new (Some (after_puts told outcome.puts)) (Ok outcome.image) (put ∙ ap (λ (x : Effect). Some (after_puts told x.puts)) is) full.1,
+      left_full opts (module_map full.0) told new (Some (after_puts told outcome.puts)) (Ok outcome.image) (put ∙ ap (λ (x : Effect). Some (after_puts told x.puts)) is) full.3,
     )
 built_full opts law (Err fault) told new input taken taken' answer e keeps h is a put out =
     let full = law told (Err fault) keeps h in (
-      Err fault,
       full.0,
+      full.1,
+      Err fault,
+      full.2,
       (subst (λ (x : Effect). Answers x.answer answer) is a, subst (λ (x : Effect). PutsOut x.output answer taken taken') is out),
       put ∙ ap (λ (x : Effect). Some (after_puts told x.puts)) is,
     )
 
 -- `go`
-ran_full : (opts : Opts) (budget : ℕ) → FullAt opts → (comes : Result Outcome BuildFault) (told : Told) (new : Option Told) (input : List ℕ) (input' taken taken' : Option (List ℕ)) (answer : Answer) (e : Effect) → KeepsGenuine told.files → BuildOutcome told.files opts comes
+ran_full : (opts : Opts) (budget : ℕ) → FullAt opts → (comes : Result Outcome BuildFault) (told : Told) (new : Option Told) (input : List ℕ) (input' taken taken' : Option (List ℕ)) (answer : Answer) (e : Effect) → KeepsGenuine told.files → SeenOutcome told.files opts comes
     → GoOver budget input comes e → Answers e.answer answer → new ≡ Some (after_puts told e.puts) → PutsOut e.output answer taken taken' → LeavesInput e.rest input answer input'
     → ComesInFull opts told new (λ full. RunsFull budget input full answer input' taken taken')
 ran_full opts budget law (Ok outcome) told new input input' taken taken' answer e keeps h over a put out left =
     let full = law told (Ok outcome) keeps h in
     let is = over.2 in (
-      Ok outcome.image,
       full.0,
+      full.1,
+      Ok outcome.image,
+      full.2,
       (
         over.0,
         over.1,
@@ -86,12 +93,14 @@ ran_full opts budget law (Ok outcome) told new input input' taken taken' answer 
         subst (λ (x : Effect). PutsOut x.output answer taken taken') is out,
         subst (λ (x : Effect). LeavesInput x.rest input answer input') is left,
       ),
-      left_full opts told new (Some (after_puts told outcome.puts)) (Ok outcome.image) (put ∙ ap (λ (x : Effect). Some (after_puts told x.puts)) is) full.1,
+      left_full opts (module_map full.0) told new (Some (after_puts told outcome.puts)) (Ok outcome.image) (put ∙ ap (λ (x : Effect). Some (after_puts told x.puts)) is) full.3,
     )
 ran_full opts budget law (Err fault) told new input input' taken taken' answer e keeps h is a put out left =
     let full = law told (Err fault) keeps h in (
-      Err fault,
       full.0,
+      full.1,
+      Err fault,
+      full.2,
       (subst (λ (x : Effect). Answers x.answer answer) is a, subst (λ (x : Effect). PutsOut x.output answer taken taken') is out),
       put ∙ ap (λ (x : Effect). Some (after_puts told x.puts)) is,
     )

@@ -1,14 +1,13 @@
 -- Kinds of commands, and what each leaves alone.
-use Rattle.std.specs.Prelude.{ℕ, Bool, true, false, List, [], ◌∷◌, Option, Some, None, IfSome, IsSomeAnd, ◌↔◌}
+use Rattle.std.specs.Prelude.{ℕ, Bool, true, false, List, [], ◌∷◌, Option, Some, IfSome, IsSomeAnd, ◌↔◌}
 use Rattle.pw_io.specs.Files.{Files, Told}
 use Rattle.pw_store_modules.specs.FileNames.{database_name, image_name}
 use Rattle.pw_top_answer.specs.declared.answer.Answer.{Answer}
 use Rattle.pw_top_answer.specs.Outcomes.{IsNoRefusal}
 use Rattle.pw_store_modules.specs.Modules.{modules_of}
-use Rattle.pw_law_session.specs.FromSession.FromBuild.Phases as phases
+use Rattle.pw_store_texts.specs.Seen.{IsSeen}
 use Rattle.pw_commands.specs.Others.{KeepsOthers}
 use Rattle.pw_law_session.specs.FromSession.FromBuildFiles.Genuine.{KeepsGenuine}
-use Rattle.pw_law_session.specs.FromSession.Bench.{bench_files}
 use Rattle.pw_law_session.specs.FromSession.Changes.{MakesSome}
 use Rattle.pw_law_session.specs.FromSession.Outcomes.{EndsAs}
 use Rattle.pw_law_session.specs.FromSession.Removals.{MayRemove}
@@ -20,8 +19,7 @@ use Rattle.pw_law_session.specs.Full.{SessionBuildsInFull}
 use Rattle.pw_top.specs.Rest.{LeavesRest}
 use Rattle.pw_top.specs.Whole.{BenchesFull, ComesInFull, IfMade, InterpretsFull, ReportsFull, RunsFull}
 use Rattle.pw_commands_cpp.specs.Command.{cpp_puts}
-use Rattle.pw_commands_interp.specs.Interpreting.{told_line}
-use Rattle.pw_commands_phases.specs.First.{phase_line, phase_one_puts}
+use Rattle.pw_commands_phases.specs.First.{phase_one_puts}
 use Rattle.pw_commands_phases.specs.Second.{phase_two_puts}
 use Rattle.pw_top_words.specs.declared.commands.Command.{Command}
 use Rattle.pw_top_words.specs.declared.commands.Command.TheVariants.{Go, Build, Session, PhaseOne, Analyse, PhaseTwo, Link, Run, List as ListImage, Db, Bench, Where, Preprocess, Interp}
@@ -98,11 +96,11 @@ BuildsFirst (Some (Where k opts)) answer told new = HasBuilt opts.build answer t
 BuildsFirst (Some (Build opts)) answer told new = HasBuilt opts answer told new
 BuildsFirst _ answer told new = Unit {0}
 
--- Where the kept objects are genuine, nothing is refused exactly where the modules can be built: they are accepted one by one and
+-- Where the kept objects are genuine, nothing is refused exactly where the modules, as a build sees them, can be built: they are accepted one by one and
 -- together, and text and memory are large enough. So it is of every answer but a fault of the store and want of memory, which may
 -- come in the place of either.
 abbrev pub BuildsWhereItCan : Files → Opts → Answer → Type 0
-BuildsWhereItCan files opts answer = KeepsGenuine files → IfMade answer (IsNoRefusal answer ↔ CanBeBuilt (modules_of files) opts)
+BuildsWhereItCan files opts answer = KeepsGenuine files → IfMade answer ((shown : Files) → IsSeen files shown → IsNoRefusal answer ↔ CanBeBuilt (modules_of shown) opts)
 
 -- `build`, `go` and `where` do so
 abbrev pub IsComplete : Option Command → Files → Answer → Type 0
@@ -128,13 +126,3 @@ BuildsWhole _ answer told new input input' taken taken' = Unit {0}
 abbrev pub EndsScript : Option Command → Option (List ℕ) → Answer → Type 0
 EndsScript (Some (Session opts)) script answer = IfSome script (λ bytes. EndsAs bytes answer)
 EndsScript _ script answer = Unit {0}
-
--- the line on which a module is refused; of `interp` also that on which an operation stands that has no meaning
-abbrev pub line_of : Option Command → Files → Answer → Option ℕ
-line_of (Some (Go opts)) files answer = phases.refused_line (modules_of files)
-line_of (Some (Where k opts)) files answer = phases.refused_line (modules_of files)
-line_of (Some (Interp opts)) files answer = told_line (modules_of files) answer
-line_of (Some (Build opts)) files answer = phases.refused_line (modules_of files)
-line_of (Some (Bench number opts)) files answer = phases.refused_line (modules_of (bench_files number))
-line_of (Some (PhaseOne name optimise)) files answer = phase_line files name
-line_of _ files answer = None

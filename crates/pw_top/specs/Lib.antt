@@ -5,5 +5,6 @@ pub mod Does
 pub mod Meant
 pub mod Obeying
 pub mod Rest
+pub mod Telling
 pub mod Whole
 pub mod FromLawSession

@@ -1,9 +1,11 @@
 -- What a call that ran a program answered, put out and read, as what the program does in C.
 use Rattle.std.specs.Prelude.{◌≡◌, ℕ, ◌<◌, ◌-◌, List, ◌++◌, length, Option, Some, Ok}
+use Rattle.pw_io.specs.Files.{Files}
 use Rattle.pw_io.specs.Streams.{Appends}
 use Rattle.pw_image.specs.declared.image.Image.{Image}
 use Rattle.pw_image.specs.Image.{Contents, IsImageFile}
-use Rattle.pw_store_modules.specs.Modules.{Texts}
+use Rattle.pw_store_modules.specs.Modules.{Texts, module_map}
+use Rattle.pw_store_texts.specs.Seen.{IsSeen}
 use Rattle.pw_cmean.specs.Worlds.{Program}
 use Rattle.pw_run_agreement.specs.Agreement.{SourceEnd, SourceRun, Ends, Stack, IsMeaningful}
 use Rattle.pw_top_answer.specs.declared.answer.Answer.{Answer}
@@ -60,3 +62,8 @@ pub record AnswersProgram (texts : Texts) (opts : RunOpts) (answer : Answer) (in
   pub fit : FramesFit program contents.value
   pub does : (bound : ℕ) → opts.budget < bound → IsMeaningful (runs_of program contents.value opts.build.stack input bound).end →
       AnswersRun (runs_of program contents.value opts.build.stack input bound) answer input input' taken taken'
+
+-- the same of the modules of a store as a build sees them
+abbrev pub AnswersSeen : Files → RunOpts → Answer → (input : List ℕ) → (input' taken taken' : Option (List ℕ)) → Type 0
+AnswersSeen files opts answer input input' taken taken' =
+    (shown : Files) × IsSeen files shown × AnswersProgram (module_map shown) opts answer input input' taken taken'

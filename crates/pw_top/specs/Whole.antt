@@ -5,6 +5,7 @@ use Rattle.pw_io.specs.Files.{Files, Told}
 use Rattle.pw_image.specs.declared.image.Image.{Image}
 use Rattle.pw_image.specs.Image.{Contents, IsImageFile}
 use Rattle.pw_store_modules.specs.Modules.{module_map}
+use Rattle.pw_store_texts.specs.Seen.{IsSeen}
 use Rattle.pw_top_answer.specs.declared.answer.Answer.{Answer}
 use Rattle.pw_top_answer.specs.declared.answer.Answer.TheVariants.{Done}
 use Rattle.pw_top_answer.specs.Effects.{Effect}
@@ -43,11 +44,11 @@ abbrev pub BenchesFull : ℕ → RunOpts → List ℕ → Answer → (taken take
 BenchesFull number opts input answer taken taken' =
     (effect : Effect) × BenchBuildsInFull number opts input effect × Answers effect.answer answer × PutsOut effect.output answer taken taken'
 
--- The full build of the modules comes to an image, which means what they mean in C, or to a fault, of which this holds, and the
+-- The full build of the modules, as a build sees them, comes to an image, which means what they mean in C, or to a fault, of which this holds, and the
 -- files are left so.
 abbrev pub ComesInFull : Opts → Told → Option Told → (Result (List ℕ) BuildFault → Type 0) → Type 0
 ComesInFull opts told new P =
-    (full : Result (List ℕ) BuildFault) × BuildsAndMeans (module_map told.files) opts full × P full × LeavesFull (module_map told.files) opts full told new
+    (shown : Files) × IsSeen told.files shown × (full : Result (List ℕ) BuildFault) × BuildsAndMeans (module_map shown) opts full × P full × LeavesFull (module_map shown) opts full told new
 
 -- The answer, what is put out and what is left of the input are those to which a run of the modules by the meaning of C comes, with
 -- the frames of the full build's image, or they tell that build's refusal.

@@ -2,7 +2,6 @@
 
 ghost use Rattle.std.specs.Prelude.{ℕ, List, Option, Some};
 ghost use Rattle.pw_io.specs.Files.{Told};
-ghost use Rattle.pw_store_modules.specs.Modules.{module_map};
 ghost use Rattle.pw_top_answer.specs.declared.answer.Answer.{Answer};
 ghost use Rattle.pw_run_languages.specs.Programs.{AreBytes};
 ghost use Rattle.pw_build_opts.specs.declared.opts.RunOpts.{RunOpts};
@@ -12,13 +11,13 @@ ghost use Rattle.pw_top_words.specs.declared.commands.Command.TheVariants.{Go};
 ghost use Rattle.pw_top.specs.Behind.{DoesAsGo, RunsBehindBuild};
 ghost use Rattle.pw_top.specs.Commands.{BuildsFirst};
 ghost use Rattle.pw_top.specs.Does.{DoesAs};
-ghost use Rattle.pw_top.specs.Meant.{AnswersProgram, WasRun};
+ghost use Rattle.pw_top.specs.Meant.{AnswersSeen, WasRun};
 
 use pw_image::laws::images_and_files_are_one_to_one;
 use pw_io::laws::front;
 use pw_law_session::builds_are_full;
 
-/// Where `go` ran the program of modules over genuine kept objects on an input of bytes, what it answers, puts out and reads is
+/// Where `go` ran the program of modules, as a build sees them, over genuine kept objects on an input of bytes, what it answers, puts out and reads is
 /// what the program does in C, as far as that is defined: with the same end, the same output and as many bytes read; where the
 /// budget was spent, or the input or the output had a fault, with a prefix of the output. The machine does not halt.
 pub fn go_does_what_the_program_does()
@@ -26,7 +25,7 @@ pub fn go_does_what_the_program_does()
         AreOpts opts.build → KeepsGenuine told.files → AreBytes input → WasRun answer →
         BuildsFirst (Some (Go opts)) answer told new →
         DoesAs (Some (Go opts)) answer told new input input' taken taken' →
-        AnswersProgram (module_map told.files) opts answer input input' taken taken' }
+        AnswersSeen told.files opts answer input input' taken taken' }
 {
     builds_are_full();
     images_and_files_are_one_to_one();
@@ -42,7 +41,7 @@ pub fn a_run_behind_a_build_is_go()
         RunsBehindBuild opts answer told new input input' taken taken' → DoesAsGo opts answer told new input input' taken taken' }
     ensures program { (opts : RunOpts) (answer : Answer) (told : Told) (new : Option Told) (input : List ℕ) (input' taken taken' : Option (List ℕ)) →
         RunsBehindBuild opts answer told new input input' taken taken' → AreBytes input → WasRun answer →
-        AnswersProgram (module_map told.files) opts answer input input' taken taken' }
+        AnswersSeen told.files opts answer input input' taken taken' }
 {
     builds_are_full();
     front();

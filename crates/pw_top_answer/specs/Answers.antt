@@ -27,7 +27,7 @@ use Rattle.pw_value.specs.declared.fault.What.{What}
 use Rattle.pw_value.specs.declared.fault.What.TheVariants.{Modules, TextBytes, Functions, Globals}
 use Rattle.pw_store_modules.specs.FileNames.{text_name}
 use Rattle.pw_top_answer.specs.declared.answer.Answer.{Answer}
-use Rattle.pw_top_answer.specs.declared.answer.Answer.TheVariants.{Done, Ended, Usage, Refused, LinkRefused, StackStop, Spent, Halted, ReadFault, WriteFault, StoreFault, NoMemory, BadFile, BadScript, NoFrames, RefusedSource, Cpp, Undefined}
+use Rattle.pw_top_answer.specs.declared.answer.Answer.TheVariants.{Done, Ended, Usage, Refused, LinkRefused, StackStop, Spent, Halted, ReadFault, WriteFault, StoreFault, NoMemory, BadFile, BadScript, NoFrames, RefusedSource, Cpp, Undefined, UndefinedSource}
 
 -- the status with which the process ends
 abbrev pub status_of : Answer → ℕ
@@ -48,6 +48,7 @@ status_of NoMemory = 121
 status_of (BadFile name at) = 122
 status_of (BadScript at) = 123
 status_of (Undefined operation name token) = 124
+status_of (UndefinedSource operation name token) = 124
 status_of (NoFrames address) = 125
 
 -- ---- the line that is told
@@ -190,6 +191,7 @@ line_text line (BadFile name at) = bad_file_text name at ++ newline
 line_text line (BadScript at) = codes "BadScript at " ++ decimal at ++ newline
 line_text line (NoFrames address) = codes "NoFrames " ++ decimal address ++ newline
 line_text line (Undefined operation name token) = text_name name ++ at_line line ++ codes ": Undefined " ++ text_of operation ++ codes " at token " ++ decimal token ++ newline
+line_text line (UndefinedSource operation name token) = source_file name ++ at_line line ++ codes ": Undefined " ++ text_of operation ++ codes " at token " ++ decimal token ++ newline
 
 -- the answers whose lines name something, and are made for them
 abbrev pub NeedsMemory : Answer → Type 0
@@ -211,3 +213,4 @@ NeedsMemory (BadFile name at) = Unit {0}
 NeedsMemory (BadScript at) = Unit {0}
 NeedsMemory (NoFrames address) = Unit {0}
 NeedsMemory (Undefined operation name token) = Unit {0}
+NeedsMemory (UndefinedSource operation name token) = Unit {0}

@@ -9,7 +9,7 @@ use Rattle.pw_value.specs.declared.fault.What.TheVariants.{Modules}
 use Rattle.pw_store_modules.specs.declared.few.ModulesFault.{ModulesFault}
 use Rattle.pw_store_modules.specs.declared.few.ModulesFault.TheVariants as modules
 use Rattle.pw_top_answer.specs.declared.answer.Answer.{Answer}
-use Rattle.pw_top_answer.specs.declared.answer.Answer.TheVariants.{Done, Ended, Usage, Refused, LinkRefused, StackStop, Spent, Halted, ReadFault, WriteFault, StoreFault, NoMemory, BadFile, BadScript, NoFrames, RefusedSource, Cpp, Undefined}
+use Rattle.pw_top_answer.specs.declared.answer.Answer.TheVariants.{Done, Ended, Usage, Refused, LinkRefused, StackStop, Spent, Halted, ReadFault, WriteFault, StoreFault, NoMemory, BadFile, BadScript, NoFrames, RefusedSource, Cpp, Undefined, UndefinedSource}
 use Rattle.pw_top_answer.specs.Answers.{line_text, NeedsMemory}
 
 -- ---- what the call answers: what is wanted; a fault and want of memory may come in its place
@@ -33,6 +33,7 @@ Answers wanted (BadFile name at) = wanted ≡ BadFile name at
 Answers wanted (BadScript at) = wanted ≡ BadScript at
 Answers wanted (NoFrames address) = wanted ≡ NoFrames address
 Answers wanted (Undefined operation name token) = wanted ≡ Undefined operation name token
+Answers wanted (UndefinedSource operation name token) = wanted ≡ UndefinedSource operation name token
 
 -- the answer refuses nothing
 abbrev pub IsNoRefusal : Answer → Type 0
@@ -55,6 +56,7 @@ abbrev pub IsLineDue : Option ℕ → Answer → Option ℕ → Type 0
 IsLineDue due (Refused name refusal) line = line ≡ due
 IsLineDue due (RefusedSource name refusal) line = line ≡ due
 IsLineDue due (Undefined operation name token) line = line ≡ due
+IsLineDue due (UndefinedSource operation name token) line = line ≡ due
 IsLineDue due _ line = Unit {0}
 
 -- ---- what it puts out

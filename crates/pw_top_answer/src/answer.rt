@@ -53,6 +53,8 @@ pub enum Answer {
     NoFrames(Word),
     /// The program met an operation that has no meaning in C, in the module of this name, at this token.
     Undefined(Undef, Name, usize),
+    /// The same, in the module of this name that has a C source, at this token of the output that the preprocessor makes of it.
+    UndefinedSource(Undef, Name, usize),
 }
 
 /// What came of a command. Where a module is refused, or an undefined operation is met in it, `line` is the line of its text on
@@ -125,7 +127,7 @@ pub fn status(answer: &Answer) -> u8
         Answer::NoMemory => 121,
         Answer::BadFile(_, _) => 122,
         Answer::BadScript(_) => 123,
-        Answer::Undefined(_, _, _) => 124,
+        Answer::Undefined(_, _, _) | Answer::UndefinedSource(_, _, _) => 124,
         Answer::NoFrames(_) => 125,
     }
 }

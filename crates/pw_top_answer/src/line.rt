@@ -2,6 +2,7 @@
 
 ghost use Rattle.std.specs.Prelude.{◌≡◌, IfOk, OnOk, OnErr, ◌++◌, ◌<◌, ◌^◌, codes};
 ghost use Rattle.std.specs.Fmt.{decimal};
+ghost use Rattle.pw_cmean.specs.Undefined.{text_of};
 ghost use Rattle.pw_top_answer.specs.Answers.{feature_name, what_name, which_name, limit_name, kind_text, cpp_text, bad_file_text, halt_name, lex_text, link_text, parse_text, refusal_text, line_text, at_line, NeedsMemory};
 ghost use Rattle.pw_top_answer.specs.Lines.{line_bytes};
 
@@ -375,7 +376,27 @@ fn no_frames_line(alloc: Global, address: Word) -> Result<Vec<u8>, AllocError>
     Ok(text)
 }
 
-/// The line of an undefined operation at a token of a module's text, on line `line` of it.
+/// The line of an undefined operation at a token of the text of a file, on line `line` of it.
+fn undefined_in(
+    alloc: Global,
+    operation: Undef,
+    name: &Name,
+    ending: &str,
+    token: usize,
+    line: Option<usize>,
+) -> Result<Vec<u8>, AllocError>
+    ensures { IfOk result (λ text. text.items ≡ name.now ++ ending.now ++ at_line line ++ codes ": Undefined " ++ text_of operation ++ codes " at token " ++ decimal token ++ codes "\n") }
+{
+    let mut text = Vec::from_slice(alloc, name.as_bytes())?;
+    text.extend_from_slice(ending.as_bytes())?;
+    push_line(&mut text, line)?;
+    text.extend_from_slice(b": Undefined ")?;
+    push_at(&mut text, undefined_text(operation).as_bytes(), token)?;
+    text.extend_from_slice(b"\n")?;
+    Ok(text)
+}
+
+/// The line of an undefined operation at a token of a module's text.
 fn undefined_line(
     alloc: Global,
     operation: Undef,
@@ -385,13 +406,20 @@ fn undefined_line(
 ) -> Result<Vec<u8>, AllocError>
     ensures { IfOk result (λ text. text.items ≡ line_text line (Answer.Undefined operation name.now token)) }
 {
-    let mut text = Vec::from_slice(alloc, name.as_bytes())?;
-    text.extend_from_slice(TEXT_ENDING.as_bytes())?;
-    push_line(&mut text, line)?;
-    text.extend_from_slice(b": Undefined ")?;
-    push_at(&mut text, undefined_text(operation).as_bytes(), token)?;
-    text.extend_from_slice(b"\n")?;
-    Ok(text)
+    undefined_in(alloc, operation, name, TEXT_ENDING, token, line)
+}
+
+/// The line of an undefined operation at a token of the output of a module's C source.
+fn undefined_source_line(
+    alloc: Global,
+    operation: Undef,
+    name: &Name,
+    token: usize,
+    line: Option<usize>,
+) -> Result<Vec<u8>, AllocError>
+    ensures { IfOk result (λ text. text.items ≡ line_text line (Answer.UndefinedSource operation name.now token)) }
+{
+    undefined_in(alloc, operation, name, ".c", token, line)
 }
 
 /// The line of a script that has no lawful line at an offset.
@@ -444,6 +472,10 @@ pub fn line_of(alloc: Global, answer: &Answer, line: Option<usize>) -> Result<Li
         Answer::NoFrames(address) => Ok(Line::Made(no_frames_line(alloc, *address)?)),
         Answer::Undefined(operation, name, token) => {
             Ok(Line::Made(undefined_line(alloc, *operation, name, *token, line)?))
+        }
+        Answer::UndefinedSource(operation, name, token) => {
+            let text = undefined_source_line(alloc, *operation, name, *token, line)?;
+            Ok(Line::Made(text))
         }
         Answer::Done | Answer::Ended(_) => Ok(Line::Fixed(b"")),
         Answer::Usage => Ok(Line::Fixed(b"usage\n")),

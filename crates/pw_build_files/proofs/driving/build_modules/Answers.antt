@@ -1,6 +1,4 @@
 use Rattle.std.proofs.Common.{None, refl}
-use Rattle.pw_store_modules.specs.Modules.{modules_of}
-use Rattle.pw_build_files.specs.FromBuild.Phases.{refused_line}
 use Rattle.pw_build_files.proofs.DrivingLemmas.{fault_is_answer, fault_line, fault_obeys, fault_output, fault_refusal, fault_streams, fault_writes, report_answer, report_count, report_line, report_obeys, report_output, report_refusal, report_streams}
 use Rattle.pw_build_files.proofs.OthersLemmas.{built_unput, unbuilt_unput}
 use Rattle.pw_build_files.proofs.driving.build_modules.Goals as goal
@@ -19,7 +17,7 @@ pub returns-in-Ok-clause-others : goal.returns-in-Ok-clause-others
 returns-in-Ok-clause-others g c = built_unput c.other_files.ensures.insertion _ (g.S.Store.told c.args.store.now) _ c.in-Ok.ensures.others
 
 pub returns-in-Ok-clause-line : goal.returns-in-Ok-clause-line
-returns-in-Ok-clause-line g c = report_line (λ files. refused_line (modules_of files)) (g.S.Store.told c.args.store.now) _ None c.put_report.ensures.answer
+returns-in-Ok-clause-line g c = report_line (g.S.Store.told c.args.store.now) _ None c.put_report.ensures.answer
 
 pub returns-in-Ok-clause-answer : goal.returns-in-Ok-clause-answer
 returns-in-Ok-clause-answer g c = report_answer _ c.put_report.ensures.answer

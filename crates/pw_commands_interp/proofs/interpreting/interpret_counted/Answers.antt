@@ -6,7 +6,7 @@ use Rattle.pw_commands_interp.proofs.interpreting.interpret_counted.Goals as goa
 
 pub returns-in-Ok-clause-did : goal.returns-in-Ok-clause-did
 returns-in-Ok-clause-did g c =
-    run_did c.modules_have_one_build.ensures.answer c.args.opts.now c.requires.colours c.args.modules.now c.as_slice-image.result.now (g.S.Store.told c.args.store.now) (g.I.Source.rest c.args.input.now) _ (g.O.Sink.taken c.args.out.now) _
+    run_did c.modules_have_one_build.ensures.answer c.kept_objects_are_seen.ensures c.args.opts.now c.requires.colours c.args.modules.now c.as_slice-image.result.now (g.S.Store.told c.args.store.now) (g.I.Source.rest c.args.input.now) _ (g.O.Sink.taken c.args.out.now) _
     c.in-Ok.linked.files c.in-Ok.linked.objects.items c.run_linked-answer.result c.with_line.result c.as_slice-image.ensures.value c.in-Ok.ensures.files c.run_linked-answer.ensures.typed c.run_linked-answer.ensures.runs c.with_line.ensures
 
 pub returns-in-Ok-clause-line : goal.returns-in-Ok-clause-line
@@ -29,7 +29,7 @@ returns-in-Ok-clause-streams g c = reply_streams (map source c.args.modules.now)
 
 pub returns-clause-did : goal.returns-clause-did
 returns-clause-did g c =
-    refused_did c.modules_have_one_build.ensures.answer c.args.opts.now c.requires.colours c.args.modules.now (g.S.Store.told c.args.store.now) (g.I.Source.rest c.args.input.now) (g.O.Sink.taken c.args.out.now)
+    refused_did c.modules_have_one_build.ensures.answer c.kept_objects_are_seen.ensures c.args.opts.now c.requires.colours c.args.modules.now (g.S.Store.told c.args.store.now) (g.I.Source.rest c.args.input.now) (g.O.Sink.taken c.args.out.now)
     c.in-Err.unbuilt.fault c.answer_of.result c.answer_of.ensures c.in-Err.ensures.fault
 
 pub returns-clause-line : goal.returns-clause-line

@@ -4,4 +4,6 @@ use Rattle.pw_commands_interp.proofs.laws.genuine_objects_run_as_the_full_build.
 
 pub returns : goal.returns
 returns c = λ files opts input effect keeps d.
-    (built_anew d.0, c.genuine_objects_give_the_full_build.ensures files opts.build d.0 keeps d.1, over_anew files opts input d.0 effect d.2)
+    let p = d.1 in
+    let full = c.genuine_objects_give_the_full_build.ensures p.0 opts.build p.2.0 (c.genuine_objects_are_seen.ensures files p.0 p.1 keeps) p.2.1 in
+    (d.0, (p.0, p.1, built_anew p.2.0, full, over_anew p.0 opts input p.2.0 d.0 p.2.2), d.2)

@@ -1,6 +1,4 @@
 use Rattle.std.proofs.Common.{refl}
-use Rattle.pw_store_modules.specs.Modules.{modules_of}
-use Rattle.pw_build_files.specs.FromBuild.Phases.{refused_line}
 use Rattle.pw_build_files.proofs.DrivingLemmas.{fault_line, fault_streams, fault_writes}
 use Rattle.pw_build_files.proofs.OthersLemmas.{built_unput, unbuilt_unput}
 use Rattle.pw_commands_where.proofs.WhereLemmas.{fault_built, fault_is, fault_obeys, fault_output, fault_reads, fault_rest, look_built_so, look_is_where, look_line, look_obeys, look_output_is, look_rest_is, look_stores, look_streams}
@@ -34,7 +32,7 @@ pub returns-in-Ok-clause-others : goal.returns-in-Ok-clause-others
 returns-in-Ok-clause-others g c = built_unput c.other_files.ensures.insertion c.show_built.result (g.S.Store.told c.args.store.now) _ c.in-Ok.ensures.others
 
 pub returns-in-Ok-clause-line : goal.returns-in-Ok-clause-line
-returns-in-Ok-clause-line g c = look_line (λ files. refused_line (modules_of files)) (g.S.Store.told c.args.store.now) c.show_built.result c.show_built.ensures.answer
+returns-in-Ok-clause-line g c = look_line (g.S.Store.told c.args.store.now) c.show_built.result c.show_built.ensures.answer
 
 pub returns-in-Ok-clause-answer : goal.returns-in-Ok-clause-answer
 returns-in-Ok-clause-answer g c = look_is_where c.show_built.result c.show_built.ensures.answer

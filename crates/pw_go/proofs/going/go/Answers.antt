@@ -1,6 +1,4 @@
 use Rattle.std.proofs.Common.{refl}
-use Rattle.pw_store_modules.specs.Modules.{modules_of}
-use Rattle.pw_build_files.specs.FromBuild.Phases.{refused_line}
 use Rattle.pw_build_files.proofs.DrivingLemmas.{fault_line, fault_streams, fault_writes}
 use Rattle.pw_build_files.proofs.OthersLemmas.{built_unput, unbuilt_unput}
 use Rattle.pw_go.proofs.GoLemmas.{fault_built, fault_is, fault_obeys, fault_output, fault_reads, fault_rest, run_built_so, run_is, run_line, run_obeys, run_output_is, run_rest_is, run_stores, run_streams}
@@ -26,7 +24,7 @@ pub returns-in-Ok-clause-others : goal.returns-in-Ok-clause-others
 returns-in-Ok-clause-others g c = built_unput c.other_files.ensures.insertion c.run_built.result (g.S.Store.told c.args.store.now) _ c.in-Ok.ensures.others
 
 pub returns-in-Ok-clause-line : goal.returns-in-Ok-clause-line
-returns-in-Ok-clause-line g c = run_line (λ files. refused_line (modules_of files)) (g.S.Store.told c.args.store.now) c.run_built.result c.run_built.ensures.answer
+returns-in-Ok-clause-line g c = run_line (g.S.Store.told c.args.store.now) c.run_built.result c.run_built.ensures.answer
 
 pub returns-in-Ok-clause-answer : goal.returns-in-Ok-clause-answer
 returns-in-Ok-clause-answer g c = run_is c.run_built.result c.run_built.ensures.answer

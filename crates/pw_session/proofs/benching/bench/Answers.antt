@@ -1,6 +1,7 @@
-use Rattle.std.proofs.Common.{None, ap}
+use Rattle.std.proofs.Common.{None, ap, sym, subst}
 use Rattle.pw_io.specs.Files.{Told}
-use Rattle.pw_session.specs.Bench.{BenchEffect}
+use Rattle.pw_top_answer.specs.declared.answer.Answer.{Answer}
+use Rattle.pw_session.specs.Bench.{BenchEffect, IsBenchLine}
 use Rattle.pw_session.proofs.BenchLemmas.{alone_streams, bench_built, bench_none, bench_refused, fault_write, refused_at, refused_is, said_at, said_is, said_streams}
 use Rattle.pw_session.proofs.benching.bench.Goals as goal
 
@@ -26,7 +27,9 @@ returns-clause-obeys g c = λ input.
     rw c.answer_of.ensures (bench_refused c.args.number c.args.opts.now input c.in-Err.unbuilt c.in-Ok.store _ (g.O.Sink.taken c.args.out.now) (ap (λ (t : Told). t.files) c.in-Ok.ensures) c.in-Err.ensures.obeys c.in-Err.ensures.count)
 
 pub returns-clause-line : goal.returns-clause-line
-returns-clause-line g c = rw c.answer_of.ensures (refused_at c.args.number c.in-Err.unbuilt.fault c.in-Err.unbuilt.line c.in-Ok.store.files (ap (λ (t : Told). t.files) c.in-Ok.ensures) c.in-Err.ensures.line)
+returns-clause-line g c =
+    subst (λ (a : Answer). IsBenchLine c.args.number a c.in-Err.unbuilt.line) (sym c.answer_of.ensures)
+    (refused_at c.args.number c.in-Err.unbuilt.fault c.in-Err.unbuilt.line c.in-Ok.store.files (ap (λ (t : Told). t.files) c.in-Ok.ensures) c.in-Err.ensures.line)
 
 pub returns-clause-write : goal.returns-clause-write
 returns-clause-write g c = rw c.answer_of.ensures (fault_write c.in-Err.unbuilt.fault (g.O.Sink.faults c.args.out.now))

@@ -13,7 +13,7 @@ returns-in-Ok-clause-does g c =
 
 pub returns-in-Ok-clause-genuine : goal.returns-in-Ok-clause-genuine
 returns-in-Ok-clause-genuine g c =
-    change_keeps c.module_texts_are_no_objects.ensures c.args.file.now (g.S.Store.told c.args.store.now) (g.S.Store.told c.put.new.self) (λ told. after_put told c.args.file.now c.args.text.now) c.requires
+    change_keeps c.texts_are_no_objects.ensures c.args.file.now (g.S.Store.told c.args.store.now) (g.S.Store.told c.put.new.self) (λ told. after_put told c.args.file.now c.args.text.now) c.requires
     (λ told other ne. c.other_files.ensures.insertion told.files c.args.file.now c.args.text.now other ne) c.in-Ok.ensures.ok
 
 pub returns-in-Ok-clause-store : goal.returns-in-Ok-clause-store
@@ -28,7 +28,7 @@ returns-in-Err-clause-does g c =
 
 pub returns-in-Err-clause-genuine : goal.returns-in-Err-clause-genuine
 returns-in-Err-clause-genuine g c =
-    put_error_keeps c.module_texts_are_no_objects.ensures c.args.file.now c.args.text.now c.in-Err.error (g.S.Store.told c.args.store.now) (g.S.Store.told c.put.new.self) c.requires c.other_files.ensures.failure c.in-Err.ensures.failed c.in-Err.ensures.no_memory
+    put_error_keeps c.texts_are_no_objects.ensures c.args.file.now c.args.text.now c.in-Err.error (g.S.Store.told c.args.store.now) (g.S.Store.told c.put.new.self) c.requires c.other_files.ensures.failure c.in-Err.ensures.failed c.in-Err.ensures.no_memory
 
 pub returns-in-Err-clause-store : goal.returns-in-Err-clause-store
 returns-in-Err-clause-store g c = error_count c.in-Err.error c.from.result (g.S.Store.faults c.args.store.now) (g.S.Store.faults c.put.new.self) c.from.ensures c.in-Err.ensures.cause

@@ -13,7 +13,7 @@ returns-in-Ok-clause-does g c =
 
 pub returns-in-Ok-clause-genuine : goal.returns-in-Ok-clause-genuine
 returns-in-Ok-clause-genuine g c =
-    change_keeps c.module_texts_are_no_objects.ensures c.args.file.now (g.S.Store.told c.args.store.now) (g.S.Store.told c.remove.new.self) (λ told. after_remove told c.args.file.now) c.requires
+    change_keeps c.texts_are_no_objects.ensures c.args.file.now (g.S.Store.told c.args.store.now) (g.S.Store.told c.remove.new.self) (λ told. after_remove told c.args.file.now) c.requires
     (λ told other ne. c.other_files.ensures.removal told.files c.args.file.now other ne) c.in-Ok.ensures.ok
 
 pub returns-in-Ok-clause-store : goal.returns-in-Ok-clause-store

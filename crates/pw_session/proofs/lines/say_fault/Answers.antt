@@ -1,15 +1,11 @@
-use Rattle.std.proofs.Common.{subst}
-use Rattle.pw_top_answer.specs.declared.answer.Answer.{Answer}
-use Rattle.pw_top_answer.specs.Answers.{line_text}
-use Rattle.pw_top_answer.specs.Outcomes.{PutsOut}
-use Rattle.pw_session.proofs.LineLemmas.{says_refusal}
-use Rattle.pw_session.proofs.TurnLemmas.{say_is_line}
+use Rattle.pw_session.proofs.LineLemmas.{fault_counts, fault_is_said}
 use Rattle.pw_session.proofs.lines.say_fault.Goals as goal
 
-pub returns-in_default-clause-said : goal.returns-in_default-clause-said
-returns-in_default-clause-said g c =
-    says_refusal c.args.unbuilt.fault c.args.unbuilt.line c.say_line.result (g.O.Sink.taken c.args.out.now) (g.O.Sink.taken c.say_line.new.out) c.in_default.not-StoreFault c.in_default.not-NoMemory
-    (subst (λ (a : Answer). PutsOut (line_text c.args.unbuilt.line a) c.say_line.result (g.O.Sink.taken c.args.out.now) (g.O.Sink.taken c.say_line.new.out)) c.answer_of.ensures c.say_line.ensures.output) c.say_line.ensures.answer
+pub returns-clause-said : goal.returns-clause-said
+returns-clause-said g c =
+    fault_is_said (g.S.Store.told c.args.store.now) c.args.unbuilt c.tell_source.result c.answer_of.result c.say_reply.result (g.O.Sink.taken c.args.out.now) (g.O.Sink.taken c.say_reply.new.out) c.answer_of.ensures c.tell_source.ensures.told c.tell_source.ensures.line
+    c.say_reply.ensures.said
 
-pub returns-in_default-clause-answer : goal.returns-in_default-clause-answer
-returns-in_default-clause-answer g c = say_is_line c.say_line.result c.say_line.ensures.answer
+pub returns-clause-store : goal.returns-clause-store
+returns-clause-store g c =
+    fault_counts c.tell_source.result.answer c.answer_of.result c.say_reply.result c.args.unbuilt.fault (g.S.Store.faults c.args.store.now) (g.S.Store.faults c.tell_source.new.store) c.answer_of.ensures c.tell_source.ensures.count c.say_reply.ensures.store

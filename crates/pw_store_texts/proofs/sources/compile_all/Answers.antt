@@ -1,4 +1,4 @@
-use Rattle.std.proofs.Common.{◌≡◌, ℕ, ◌+◌, List, [], ◌∷◌, ◌++◌, drop, map, ap, arith, refl, subst, sym, ◌∙◌}
+use Rattle.std.proofs.Common.{ℕ, ◌+◌, List, [], ◌∷◌, ◌++◌, drop, map, ap, arith, refl, subst, sym, ◌∙◌}
 use Rattle.std.specs.Global.{Vec}
 use Rattle.std.proofs.lemmas.List.{map-append}
 use Rattle.pw_cpp_sources.specs.Sources.{texts_of}
@@ -6,7 +6,7 @@ use Rattle.pw_store_modules.proofs.ModuleLemmas.{mapped_rest}
 use Rattle.pw_store_texts.specs.Outputs.{ComesBy, output_of}
 use Rattle.pw_store_texts.specs.Seen.{AllCome, outcome}
 use Rattle.pw_store_texts.specs.Views.{named_text}
-use Rattle.pw_store_texts.specs.declared.sources.Compiled.{Compiled}
+use Rattle.pw_store_texts.specs.declared.compiled.Compiled.{Compiled}
 use Rattle.pw_store_texts.proofs.ComeLemmas.{come-all, come-more, none-left}
 use Rattle.pw_store_texts.proofs.sources.compile_all.Goals as goal
 

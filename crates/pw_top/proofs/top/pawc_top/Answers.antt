@@ -2,10 +2,10 @@ use Rattle.std.proofs.Common.{◌≡◌, ℕ, List, map}
 use Rattle.std.specs.Prelude.{None, string_bytes}
 use Rattle.pw_top_answer.specs.Outcomes.{Tells}
 use Rattle.pw_top_words.specs.CommandLine.{command_of}
-use Rattle.pw_top.specs.Commands.{IsNoSession, line_of}
-use Rattle.pw_top.proofs.CommandLemmas.{Ends}
+use Rattle.pw_top.specs.Commands.{IsNoSession}
 use Rattle.pw_top.proofs.CompleteLemmas.{is_complete}
-use Rattle.pw_top.proofs.ToldLemmas.{ends_told, input_told, output_told, rest_told, store_told, streams_told, told_builds, told_does, told_line, told_proper, usage_comes, usage_is}
+use Rattle.pw_top.proofs.TellingLemmas.{answers_as, builds_as, line_as}
+use Rattle.pw_top.proofs.ToldLemmas.{ends_told, input_told, output_told, rest_told, store_told, streams_told, told_proper, usage_comes, usage_is}
 use Rattle.pw_top.proofs.WholeLemmas.{are_within, builds_whole}
 use Rattle.pw_top.proofs.top.pawc_top.Goals as goal
 
@@ -19,16 +19,18 @@ returns-clause-usage_comes g c =
 
 pub returns-clause-does : goal.returns-clause-does
 returns-clause-does g c =
-    let ends : Ends = record { run = c.runs_leave_an_end.ensures.run; go = c.runs_leave_an_end.ensures.go; looks = c.looks_leave_an_end.ensures; interprets = c.runs_leave_a_rest.ensures } in
-    told_does ends (command_of (map string_bytes c.args.words.now)) (g.S.Store.told c.args.store.now) _ (g.I.Source.rest c.args.input.now) _ (g.O.Sink.taken c.args.out.now) _
-    c.obey_words-reply.result.answer c.tell.result c.tell.ensures.answer c.obey_words-reply.ensures.obeys.does
+    let command = command_of (map string_bytes c.args.words.now) in
+    let obeys = c.obey_words-reply.ensures.obeys in
+    answers_as command (g.S.Store.told c.args.store.now) _ (g.I.Source.rest c.args.input.now) _ (g.O.Sink.taken c.args.out.now) _ obeys.answer c.obey_words-reply.result.answer c.tell.result c.tell.ensures.answer obeys.told obeys.does
+    (builds_whole c.builds_are_full.ensures c.genuine_objects_run_as_the_full_build.ensures c.sessions_build_in_full.ensures c.bench_builds_in_full.ensures command (g.S.Store.told c.args.store.now) _ (g.I.Source.rest c.args.input.now) _ (g.O.Sink.taken c.args.out.now) _ obeys.answer
+    (are_within command (c.commands_are_within.ensures (map string_bytes c.args.words.now))) obeys.does)
 
 pub returns-clause-ends_script : goal.returns-clause-ends_script
 returns-clause-ends_script g c = ends_told (command_of (map string_bytes c.args.words.now)) (g.I.Source.rest c.args.input.now) c.obey_words-reply.result.answer c.tell.result c.tell.ensures.answer c.obey_words-reply.ensures.obeys.ends
 
 pub returns-clause-builds : goal.returns-clause-builds
 returns-clause-builds g c =
-    told_builds (command_of (map string_bytes c.args.words.now)) (g.S.Store.told c.args.store.now) _ c.obey_words-reply.result.answer c.tell.result c.tell.ensures.answer c.obey_words-reply.ensures.obeys.built
+    builds_as (command_of (map string_bytes c.args.words.now)) (g.S.Store.told c.args.store.now) _ c.obey_words-reply.ensures.obeys.answer c.obey_words-reply.result.answer c.tell.result c.tell.ensures.answer c.obey_words-reply.ensures.obeys.told c.obey_words-reply.ensures.obeys.built
 
 pub returns-clause-no_want_refused : goal.returns-clause-no_want_refused
 returns-clause-no_want_refused g c =
@@ -49,17 +51,11 @@ returns-clause-output_faults g c = output_told _ _ c.obey_words-reply.result.ans
 
 pub returns-clause-line : goal.returns-clause-line
 returns-clause-line g c =
-    told_line (λ files answer. line_of (command_of (map string_bytes c.args.words.now)) files answer) (g.S.Store.told c.args.store.now) c.obey_words-reply.result.answer c.tell.result c.obey_words-reply.result.line
+    line_as (command_of (map string_bytes c.args.words.now)) (g.S.Store.told c.args.store.now) c.obey_words-reply.result.answer c.tell.result c.obey_words-reply.result.line
     (λ (text : List ℕ). Tells text (g.E.Sink.taken c.args.err.now) (g.E.Sink.taken c.tell.new.err) (g.E.Sink.faults c.args.err.now) (g.E.Sink.faults c.tell.new.err)) c.tell.ensures.answer c.obey_words-reply.ensures.obeys.line c.tell.ensures.line
 
 pub returns-clause-some_line : goal.returns-clause-some_line
 returns-clause-some_line g c = (c.obey_words-reply.result.line, c.tell.ensures.line)
-
-pub returns-clause-builds_whole : goal.returns-clause-builds_whole
-returns-clause-builds_whole g c =
-    builds_whole c.builds_are_full.ensures c.genuine_objects_run_as_the_full_build.ensures c.sessions_build_in_full.ensures c.bench_builds_in_full.ensures (command_of (map string_bytes c.args.words.now)) (g.S.Store.told c.args.store.now) _ (g.I.Source.rest c.args.input.now) _ (g.O.Sink.taken c.args.out.now) _ c.tell.result
-    (are_within (command_of (map string_bytes c.args.words.now)) (c.commands_are_within.ensures (map string_bytes c.args.words.now)))
-    (returns-clause-does g c)
 
 pub returns-clause-keeps_others : goal.returns-clause-keeps_others
 returns-clause-keeps_others g c =
@@ -73,6 +69,6 @@ returns-clause-store_after g c = c.obey_words-reply.ensures.obeys.reads
 
 pub returns-clause-complete : goal.returns-clause-complete
 returns-clause-complete g c =
-    is_complete c.a_store_is_built_exactly_where_it_can_be.ensures (command_of (map string_bytes c.args.words.now)) (g.S.Store.told c.args.store.now) _ c.tell.result
+    is_complete (record { exact = c.a_store_is_built_exactly_where_it_can_be.ensures; genuine = c.genuine_objects_are_seen.ensures; way = c.files_are_seen_in_one_way.ensures }) (command_of (map string_bytes c.args.words.now)) (g.S.Store.told c.args.store.now) _ c.tell.result
     (are_within (command_of (map string_bytes c.args.words.now)) (c.commands_are_within.ensures (map string_bytes c.args.words.now)))
     (returns-clause-builds g c)

@@ -1,19 +1,19 @@
 use Rattle.pw_commands_interp.proofs.BuildLemmas.{read_did, unread_did}
 use Rattle.pw_commands_interp.proofs.LineLemmas.{fault_proper, fault_reads, fault_streams, fault_writes, line_read, line_unread}
-use Rattle.pw_commands_interp.proofs.interpreting.interpret_modules.Goals as goal
+use Rattle.pw_commands_interp.proofs.interpreting.interpret_seen.Goals as goal
 
 pub returns-in-Ok-clause-did : goal.returns-in-Ok-clause-did
 returns-in-Ok-clause-did g c =
-    read_did c.args.opts.now c.in-Ok.modules.items (g.S.Store.told c.args.store.now) _ (g.I.Source.rest c.args.input.now) _ (g.O.Sink.taken c.args.out.now) _ c.interpret_counted.result.answer c.modules_to_build.ensures.same c.in-Ok.ensures.modules
-    (rw c.deref.ensures.value at c.interpret_counted.ensures.did)
+    read_did c.files_are_seen_in_one_way.ensures c.args.opts.now c.in-Ok.modules.items (g.S.Store.told c.args.store.now) _ (g.I.Source.rest c.args.input.now) _ (g.O.Sink.taken c.args.out.now) _ c.interpret_counted.result.answer c.in-Ok.ensures.modules
+    c.modules_to_build.ensures.same (rw c.deref.ensures.value at c.interpret_counted.ensures.did)
 
 pub returns-in-Ok-clause-line : goal.returns-in-Ok-clause-line
 returns-in-Ok-clause-line g c =
-    line_read c.in-Ok.modules.items (g.S.Store.told c.args.store.now) c.interpret_counted.result c.in-Ok.ensures.modules (rw c.deref.ensures.value at c.interpret_counted.ensures.line)
+    line_read c.files_are_seen_in_one_way.ensures c.in-Ok.modules.items (g.S.Store.told c.args.store.now) c.interpret_counted.result c.in-Ok.ensures.modules (rw c.deref.ensures.value at c.interpret_counted.ensures.line)
 
 pub returns-in-Err-clause-did : goal.returns-in-Err-clause-did
 returns-in-Err-clause-did g c =
-    unread_did c.modules_have_one_build.ensures.answer c.args.opts.now c.requires.colours (g.S.Store.told c.args.store.now) (g.I.Source.rest c.args.input.now) (g.O.Sink.taken c.args.out.now) c.in-Err.unbuilt.fault c.answer_of.result c.answer_of.ensures
+    unread_did c.modules_have_one_build.ensures.answer c.files_are_seen_in_one_way.ensures c.args.opts.now c.requires.colours (g.S.Store.told c.args.store.now) (g.I.Source.rest c.args.input.now) (g.O.Sink.taken c.args.out.now) c.in-Err.unbuilt.fault c.answer_of.result c.answer_of.ensures
     c.in-Err.ensures.fault
 
 pub returns-in-Err-clause-line : goal.returns-in-Err-clause-line

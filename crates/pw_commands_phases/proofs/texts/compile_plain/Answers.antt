@@ -1,8 +1,8 @@
 use Rattle.std.proofs.Common.{None}
 use Rattle.pw_commands_phases.specs.First.{phase_one_puts}
 use Rattle.pw_commands.proofs.OthersLemmas.{kept_others, then_others}
-use Rattle.pw_commands_phases.proofs.FirstLemmas.{file_stop_is, file_stop_line, obeys_stopped, obeys_text, text_line}
-use Rattle.pw_commands_phases.proofs.texts.compile_text.Goals as goal
+use Rattle.pw_commands_phases.proofs.FirstLemmas.{file_stop_is, file_stop_line, line_of_text, obeys_stopped, obeys_text}
+use Rattle.pw_commands_phases.proofs.texts.compile_plain.Goals as goal
 
 pub returns-in-Ok-clause-obeys : goal.returns-in-Ok-clause-obeys
 returns-in-Ok-clause-obeys g c =
@@ -11,7 +11,7 @@ returns-in-Ok-clause-obeys g c =
 
 pub returns-in-Ok-clause-line : goal.returns-in-Ok-clause-line
 returns-in-Ok-clause-line g c =
-    text_line (g.S.Store.told c.args.store.now) c.args.name.now c.in-Ok.text.items c.compile_bytes.result.answer c.compile_bytes.result.line
+    line_of_text (g.S.Store.told c.args.store.now) c.args.name.now c.in-Ok.text.items c.compile_bytes.result.answer c.compile_bytes.result.line
     c.in-Ok.ensures.bytes (rw c.deref.ensures.value at c.compile_bytes.ensures.line)
 
 pub returns-in-Err-clause-obeys : goal.returns-in-Err-clause-obeys

@@ -1,0 +1,22 @@
+-- Modules in the order of their names, and where one more stands among them.
+use Rattle.std.specs.Prelude.{◌≡◌, ℕ, ◌<◌, ◌≤◌, List, [], ◌∷◌, insert, length, slice_set, Result, Ok, Err}
+use Rattle.std.specs.Cmp.Lexicographic.{slice_cmp}
+use Rattle.std.specs.FinMap.Entries.{put}
+use Rattle.std.specs.Ordering.{nat_cmp}
+use Rattle.pw_io.specs.Files.{prefix_of}
+use Rattle.pw_store_modules.specs.Modules.{Source, text_read}
+use Rattle.pw_store_texts.specs.Seen.{Outputs, seen_text}
+
+-- with a module of this name and this text in its place, in that of one of its name
+abbrev pub placed : List ℕ → List ℕ → List Source → List Source
+placed name text sources = put (slice_cmp nat_cmp) name text sources
+
+-- a module of this name stands there; or it would stand there
+abbrev pub Places : List Source → List ℕ → Result ℕ ℕ → Type 0
+Places sources name (Ok at) = (at < length sources) × ((text : List ℕ) → placed name text sources ≡ slice_set sources at (name, text))
+Places sources name (Err at) = (at ≤ length sources) × ((text : List ℕ) → placed name text sources ≡ insert sources at (name, text))
+
+-- modules, with what comes of C sources in their places
+abbrev pub with_outputs : List Source → Outputs → List Source
+with_outputs sources [] = sources
+with_outputs sources (output ∷ outputs) = with_outputs (placed output.0 (prefix_of text_read (seen_text output.1)) sources) outputs
