@@ -21,7 +21,7 @@ use Rattle.pw_interp_todo.specs.declared.todo.Transfer.TheVariants as X
 use Rattle.pw_interp_todo.specs.Flows.{view_flow}
 use Rattle.pw_interp_todo.specs.Resuming.{Rest, Told, Gave, Flowed, Listed, on_value, on_flow, on_list, put_back, end_objects, after, resume, control_act}
 use Rattle.pw_interp_todo.specs.Transfers.{transfer_act}
-use Rattle.pw_interp_machine.specs.declared.machine.Call.{Call}
+use Rattle.pw_interp_steps.specs.declared.call.Call.{Call}
 use Rattle.pw_interp_machine.specs.declared.machine.Machine.{Machine}
 use Rattle.pw_interp_machine.specs.Orders.{then_finished}
 use Rattle.pw_interp_machine.specs.Standing.{Stands}

@@ -1,0 +1,6 @@
+mod ArgumentLaws
+mod CallLaws
+mod Continuing
+mod LibraryLaws
+pub mod LocalLaws
+mod Making
