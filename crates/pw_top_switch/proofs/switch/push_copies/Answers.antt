@@ -1,8 +1,8 @@
 use Rattle.std.proofs.Common.{◌∙◌, map, string_bytes, ap}
-use Rattle.pw_top_words.specs.CommandLine.{Text}
+use Rattle.pw_top_switch.specs.Switch.{Text}
 use Rattle.std.specs.Prelude.{List, ◌++◌, ◌∷◌, []}
-use Rattle.pw_top_words.proofs.Switches.{one_pushed}
-use Rattle.pw_top_words.proofs.switch.push_copies.Goals as goal
+use Rattle.pw_top_switch.proofs.Switches.{one_pushed}
+use Rattle.pw_top_switch.proofs.switch.push_copies.Goals as goal
 
 pub loop-word-preserved : goal.loop-word-preserved
 loop-word-preserved c =

@@ -2,9 +2,9 @@ use Rattle.std.proofs.Common.{◌≡◌, ◌≤◌, true, false, length, map, st
 use Rattle.std.specs.Prelude.{codes, not, ◌&&◌}
 use Rattle.std.specs.Str.{bytes_eq}
 use Rattle.std.proofs.lemmas.List.{length-map}
-use Rattle.pw_top_words.specs.CommandLine.{Text, switch}
-use Rattle.pw_top_words.proofs.Switches.{ends_here, next_is_value, next_word, none_left, stands_here, starts_so, told_by, word_passed}
-use Rattle.pw_top_words.proofs.switch.switch_at.Goals as goal
+use Rattle.pw_top_switch.specs.Switch.{Text, switch}
+use Rattle.pw_top_switch.proofs.Switches.{ends_here, next_is_value, next_word, none_left, stands_here, starts_so, told_by, word_passed}
+use Rattle.pw_top_switch.proofs.switch.switch_at.Goals as goal
 
 pub loop-at-init : goal.loop-at-init
 loop-at-init c = starts_so (map string_bytes c.args.words.now)

@@ -2,7 +2,7 @@
 
 ghost use Rattle.std.specs.Prelude.{◌≡◌, ◌++◌, ◌∷◌, [], ◌&&◌, ◌<◌, Some, codes, not, false, drop, take, length, map, option_map, string_bytes, suc, IfOk, IfSome, OnOk};
 ghost use Rattle.std.specs.Str.{bytes_eq};
-ghost use Rattle.pw_top_words.specs.CommandLine.{has_value, is_named, is_switched, switch, switch_from, unswitched, without_place};
+ghost use Rattle.pw_top_switch.specs.Switch.{has_value, is_named, is_switched, switch, switch_from, unswitched, without_place};
 
 use std::alloc::{AllocError, Global};
 
