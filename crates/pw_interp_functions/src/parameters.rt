@@ -10,8 +10,8 @@ ghost use Rattle.pw_interp_calls.specs.WorldViews.{view_world};
 ghost use Rattle.pw_interp_state.specs.Shown.{view_state};
 ghost use Rattle.pw_interp_world.specs.Views.{view_part};
 
+use crate::values::set_local;
 use pw_interp_calls::{Env, Stop, World};
-use pw_interp_flows::set_local;
 use pw_interp_state::State;
 use pw_interp_world::Part;
 use pw_typed::TFunction;
