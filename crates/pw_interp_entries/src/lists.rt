@@ -15,8 +15,8 @@ ghost use Rattle.pw_interp_todo.specs.Parts.{doing_act, met_arms, once_of, takin
 ghost use Rattle.pw_interp_entries.specs.Entering as entering;
 ghost use Rattle.pw_interp_entries.specs.Entering.{arm_or_later, is_met};
 
-use crate::labels::{has_label, holds};
 use crate::contents::{arms_in, members_in, otherwise_in};
+use crate::labels::{has_label, holds};
 use pw_interp_todo::{Asked, Doing, Done, Entry, Flow, Going, Part, Purpose, Remainder, Turn, Use};
 use pw_typed::{Arm, TStmt, TStmtForm};
 
