@@ -166,15 +166,15 @@ module _ {A : Type 0} (world : World) (act : Env → Act A) where
 -- a local's object changes no world
 pub made_world : (count first : ℕ) (e inner : Env) (objects more : List Object) → made count first e objects ≡ (Some inner, more) → inner.world ≡ e.world
 made_world zero first e inner objects more is = let same : e ≡ inner = cc (ap (λ p. p.0) is) in ap (λ x. x.world) (sym same)
-made_world (suc count) first e inner objects more is = by (λ x others. made_world count (suc first) x inner others more) (slice_get e.locals first) is
+made_world (suc count) first e inner objects more is = by (λ x behind. made_world count (suc first) x inner behind more) (slice_get e.locals first) is
   where
     Others : Type 0
-    Others = (x : Env) (others : List Object) → made count (suc first) x others ≡ (Some inner, more) → inner.world ≡ x.world
+    Others = (x : Env) (behind : List Object) → made count (suc first) x behind ≡ (Some inner, more) → inner.world ≡ x.world
 
-    laid : Others → (l : LocalValue) (o : Option Layout) → made_next objects (made count (suc first)) (made_by first e objects l o) ≡ (Some inner, more) → inner.world ≡ e.world
-    laid on l None is = cc (ap (λ p. p.0) is)
-    laid on l (Some layout) is = on (with_number first (length objects) e) (with_new_object (fresh layout.size l.writable) objects) is
+    with_layout : Others → (l : LocalValue) (o : Option Layout) → made_next objects (made count (suc first)) (made_by first e objects l o) ≡ (Some inner, more) → inner.world ≡ e.world
+    with_layout on l None is = cc (ap (λ p. p.0) is)
+    with_layout on l (Some layout) is = on (with_number first (length objects) e) (with_new_object (fresh layout.size l.writable) objects) is
 
     by : Others → (o : Option LocalValue) → made_next objects (made count (suc first)) (made_at first e objects o) ≡ (Some inner, more) → inner.world ≡ e.world
     by on None is = cc (ap (λ p. p.0) is)
-    by on (Some l) is = laid on l (layout_of (records_of e) (type_of l.ty)) is
+    by on (Some l) is = with_layout on l (layout_of (records_of e) (type_of l.ty)) is
