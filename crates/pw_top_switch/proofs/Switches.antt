@@ -1,10 +1,10 @@
 -- The switch among the words of a command line.
-use Rattle.std.proofs.Common.{◌≡◌, ℕ, zero, suc, ◌+◌, ◌<◌, ◌≤◌, Bool, true, false, ◌&&◌, not, cond, List, [], ◌∷◌, ◌++◌, length, map, take, drop, get_or, Option, Some, None, refl, sym, ap, ◌∙◌, subst, append_assoc, arith}
-use Rattle.std.specs.Prelude.{option_map, codes, is_some, if◌then◌else◌, String, IfSome}
+use Rattle.std.proofs.Common.{◌≡◌, ℕ, zero, suc, ◌+◌, ◌<◌, ◌≤◌, Bool, true, false, ◌&&◌, not, List, [], ◌∷◌, ◌++◌, length, map, take, drop, get_or, Option, Some, None, refl, sym, ap, ◌∙◌, subst, append_assoc, arith}
+use Rattle.std.specs.Prelude.{option_map, codes, is_some, if◌then◌else◌, String}
 use Rattle.std.specs.String.{string_bytes}
 use Rattle.std.proofs.lemmas.List.{length-map, map-append, take_more, take-map, drop_more, drop-map, get_or-map}
 use Rattle.std.specs.Str.{bytes_eq}
-use Rattle.pw_top_switch.specs.Switch.{Text, has_value, is_named, is_switched, switch, switch_from, unswitched, without_place}
+use Rattle.pw_top_switch.specs.Switch.{Text, has_value, is_named, switch, switch_from, without_place}
 
 -- a place among words of which so many were passed
 abbrev pub passed : ℕ → Option ℕ → Option ℕ

@@ -1,6 +1,6 @@
-use Rattle.std.proofs.Common.{Option, List, false, drop, map, string_bytes, ap, ◌∙◌}
+use Rattle.std.proofs.Common.{Option, false, drop, map, string_bytes, ap, ◌∙◌}
 use Rattle.std.specs.Prelude.{ℕ, is_some}
-use Rattle.pw_top_switch.specs.Switch.{Text, switch_from, without_place}
+use Rattle.pw_top_switch.specs.Switch.{switch_from, without_place}
 use Rattle.pw_top_switch.proofs.Switches.{behind_name, is_there}
 use Rattle.pw_top_switch.proofs.switch.line_of.Goals as goal
 

@@ -1,6 +1,6 @@
 use Rattle.std.proofs.Common.{◌∙◌, map, string_bytes, ap}
 use Rattle.pw_top_switch.specs.Switch.{Text}
-use Rattle.std.specs.Prelude.{List, ◌++◌, ◌∷◌, []}
+use Rattle.std.specs.Prelude.{◌++◌, ◌∷◌, []}
 use Rattle.pw_top_switch.proofs.Switches.{one_pushed}
 use Rattle.pw_top_switch.proofs.switch.push_copies.Goals as goal
 
