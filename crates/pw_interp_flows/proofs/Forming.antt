@@ -18,9 +18,9 @@ use Rattle.pw_interp_todo.specs.Members.{initialisers_in, members_in, first_in, 
 use Rattle.pw_interp_todo.specs.Parts.{met_arms, inside, once_of, taking_act, part_act}
 use Rattle.pw_interp_todo.proofs.ActLaws.{grouped}
 use Rattle.pw_interp_todo.proofs.Firsts.{used_first}
-use Rattle.pw_interp_flows.specs.Copies.{by_bytes, copying}
+use Rattle.pw_interp_functions.specs.Copies.{by_bytes, copying}
 use Rattle.pw_interp_flows.specs.Forms.{return_act}
-use Rattle.pw_interp_flows.specs.Looping.{met_act, counting_act}
+use Rattle.pw_interp_entries.specs.Looping.{met_act, counting_act}
 
 module _ (at : Entry) (e : Env) (n : ℕ) (s : State) where
   abbrev cs : Calls

@@ -1,9 +1,5 @@
 pub mod Behind
-pub mod Copies
 pub mod Entering
 pub mod Forms
-pub mod Last
-pub mod Looping
 pub mod Numbers
-pub mod Orders
 pub mod Switches

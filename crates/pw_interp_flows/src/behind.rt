@@ -13,11 +13,11 @@ ghost use Rattle.pw_interp_todo.specs.Members as any;
 ghost use Rattle.pw_interp_todo.specs.Parts.{again_act};
 ghost use Rattle.pw_interp_flows.specs.Behind as behind;
 ghost use Rattle.pw_interp_flows.specs.Behind.{view_onward};
-ghost use Rattle.pw_interp_flows.specs.Last.{view_last};
+ghost use Rattle.pw_interp_entries.specs.Last.{view_last};
 
-use crate::labels::{holds, is_among, is_in_if, is_in_rest};
-use crate::loops::tail_of;
-use crate::members::{arms_in, members_in, otherwise_in};
+use pw_interp_entries::{
+    arms_in, holds, is_among, is_in_if, is_in_rest, members_in, otherwise_in, tail_of,
+};
 use pw_interp_todo::{Doing, Done, Entry, Flow, Going, Part, Remainder, Turn};
 use pw_typed::{Arm, TStmt, TStmtForm};
 

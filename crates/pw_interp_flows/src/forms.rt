@@ -16,9 +16,8 @@ ghost use Rattle.pw_interp_flows.specs.Entering.{has_objects};
 ghost use Rattle.pw_interp_flows.specs.Forms.{return_act};
 
 use crate::initialisers::initialisers;
-use crate::lists::{arms, members, taking};
-use crate::loops::{counted, met, top};
 use pw_interp_calls::{Env, Stop};
+use pw_interp_entries::{arms, counted, members, met, taking, top};
 use pw_interp_state::State;
 use pw_interp_todo::{Asked, Doing, Done, Entry, Flow, Going, Part, Purpose, Remainder, Turn, Use};
 use pw_typed::{TExpr, TStmt, TStmtForm};

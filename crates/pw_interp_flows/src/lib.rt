@@ -5,14 +5,8 @@
 mod behind;
 mod forms;
 mod initialisers;
-mod labels;
-mod lists;
-mod locals;
-mod loops;
-mod members;
 mod uses;
 
 pub use behind::remainder;
 pub use forms::begin;
-pub use locals::set_local;
 pub use uses::use_value;

@@ -16,14 +16,13 @@ ghost use Rattle.pw_interp_todo.specs.Members as any;
 ghost use Rattle.pw_interp_todo.specs.Operands as operands;
 ghost use Rattle.pw_interp_todo.specs.Steps.{StepsStatement};
 ghost use Rattle.pw_interp_flows.specs.Numbers as numbers;
-ghost use Rattle.pw_interp_flows.specs.Orders.{in_turn};
+ghost use Rattle.pw_interp_entries.specs.Orders.{in_turn};
 ghost use Rattle.pw_interp_flows.specs.Switches as switches;
 
-use crate::locals::set_local;
-use crate::loops::{back, top, turn};
-use crate::members::{arms_in, initialisers_in};
 use pw_interp_acts::used;
 use pw_interp_calls::{Env, Stop};
+use pw_interp_entries::{arms_in, back, initialisers_in, top, turn};
+use pw_interp_functions::set_local;
 use pw_interp_state::State;
 use pw_interp_todo::{
     Doing, Done, Entry, Flow, Going, Part, Purpose, Remainder, Turn, Use, tested,

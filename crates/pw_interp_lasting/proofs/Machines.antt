@@ -21,11 +21,10 @@ use Rattle.pw_interp_todo.specs.declared.todo.Transfer.TheVariants as X
 use Rattle.pw_interp_todo.specs.Flows.{view_flow}
 use Rattle.pw_interp_todo.specs.Resuming.{Rest, Told, Gave, Flowed, Listed, on_value, on_flow, on_list, put_back, end_objects, after, resume, control_act}
 use Rattle.pw_interp_todo.specs.Transfers.{transfer_act}
-use Rattle.pw_interp_machine.specs.declared.machine.Call.{Call}
 use Rattle.pw_interp_machine.specs.declared.machine.Machine.{Machine}
 use Rattle.pw_interp_machine.specs.Orders.{then_finished}
 use Rattle.pw_interp_machine.specs.Standing.{Stands}
-use Rattle.pw_interp_machine.specs.Waiting.{Active, leave, ended, goes_on, callers_act}
+use Rattle.pw_interp_machine.specs.Waiting.{Active, Call, leave, ended, goes_on, callers_act}
 use Rattle.pw_interp_lasting.specs.Going.{GoesOnFrom}
 use Rattle.pw_interp_lasting.proofs.Acts.{AreLasting, L, as_before, end_lasts, give_l, lasting, of_one, then_l, wrong_l}
 use Rattle.pw_interp_lasting.proofs.Expressions.{asked_l, behind_l, call_l, calls_l, values_l}

@@ -1,13 +1,6 @@
-mod ArgumentLaws
-mod CallLaws
 mod Callers
 mod Entering
 mod Finishing
-mod LibraryLaws
-mod Making
-mod Opening
-mod Pushing
 mod Rooms
 mod Standings
-mod Staying
 mod Transferring

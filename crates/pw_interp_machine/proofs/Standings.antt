@@ -1,70 +1,33 @@
 -- Steps in a call, of calls and of returns, as steps of the machine.
-use Rattle.std.proofs.Common.{ℕ, ◌≡◌, refl, sym, ap, subst, ◌∙◌, Option, Some, List, [], ◌∷◌, ◌++◌, Result, Ok, Err}
-use Rattle.std.specs.Prelude.{IfOk, IfErr}
+use Rattle.std.proofs.Common.{ℕ, ◌≡◌, refl, sym, ap, subst, ◌∙◌, Option, List, [], ◌∷◌, ◌++◌, Result, Ok, Err}
+use Rattle.std.specs.Prelude.{IfErr}
 use Rattle.pw_value.specs.declared.value.Value.{Value}
 use Rattle.pw_types.specs.TypedTrees.{Statement}
 use Rattle.pw_cmean.specs.Worlds.{World, Body, depth}
-use Rattle.pw_cmean.specs.Acts as acts
 use Rattle.pw_cmean.specs.Acts.{Act, Outcome, State, Returned, stop, wrong, go_on, ◌>>=◌}
 use Rattle.pw_cmean.specs.Evaluation.{Env}
 use Rattle.pw_cmean.specs.Execution as execution
 use Rattle.pw_cmean.specs.SourceRun.{finish}
 use Rattle.pw_interp_state.specs.Shown.{Shown, Streams, all_shown}
-use Rattle.pw_interp_state.specs.Runs.{Shows, Runs}
-use Rattle.pw_interp_state.proofs.RunLaws.{ends, stopped}
+use Rattle.pw_interp_state.specs.Runs.{Shows}
 use Rattle.pw_interp_calls.specs.declared.ending.Ending.{Ending}
 use Rattle.pw_interp_calls.specs.declared.ending.Ending.TheVariants as E
 use Rattle.pw_interp_calls.specs.declared.ending.Stop.{Stop}
 use Rattle.pw_interp_calls.specs.declared.ending.Stop.TheVariants as S
 use Rattle.pw_interp_calls.specs.Answers.{Answers, Stops}
-use Rattle.pw_interp_calls.specs.Endings.{told_stop, view_ending}
+use Rattle.pw_interp_calls.specs.Endings.{view_ending}
 use Rattle.pw_interp_calls.specs.Views.{view_env}
 use Rattle.pw_interp_todo.specs.declared.todo.Control.TheVariants as C
-use Rattle.pw_interp_todo.specs.declared.todo.Todo.{Todo}
-use Rattle.pw_interp_todo.specs.Leading.{Leads, Continues}
-use Rattle.pw_interp_todo.specs.Resuming.{Rest, Told, Gave, Flowed, after, resume, on_value, control_act}
-use Rattle.pw_interp_todo.proofs.LeadLaws.{behind_given, named}
-use Rattle.pw_interp_todo.proofs.Resumes.{resume_last}
-use Rattle.pw_interp_machine.specs.declared.machine.Call.{Call}
+use Rattle.pw_interp_todo.specs.Leading.{Leads}
+use Rattle.pw_interp_todo.specs.Resuming.{Rest, Gave, Flowed, resume, on_value, control_act}
+use Rattle.pw_interp_todo.proofs.LeadLaws.{named}
+use Rattle.pw_interp_steps.specs.declared.call.Call.{Call}
 use Rattle.pw_interp_machine.specs.declared.machine.Machine.{Machine}
 use Rattle.pw_interp_machine.specs.Waiting.{Active, leave, ended, goes_on, callers_act}
 use Rattle.pw_interp_machine.specs.Standing.{IsCall, AreCalls, InCall, StandsAt}
-use Rattle.pw_interp_machine.specs.Stepping.{StepsCall, EndsSo, Starts, StepsAt, body_first}
+use Rattle.pw_interp_steps.specs.Staying.{StepsCall}
+use Rattle.pw_interp_machine.specs.Stepping.{EndsSo, Starts, StepsAt, body_first}
 use Rattle.pw_interp_machine.proofs.Callers.{callers_last, calls_last, last_of}
-
--- ---- what code answers that does the first steps of an act
-
--- what an answer leaves is what follows it
-pub gives_next : {A B C : Type 0} {seen : C → A} {world : World} {first : Act A} {w u : Shown} {r : Result C Stop} (next : A → Act B)
-    → Answers seen world first w r u → Continues (λ made. next (seen made)) world (first >>= next) w r u
-gives_next {C = C} {seen = seen} {world = world} {first = first} {w = w} {u = u} {r = r} next a = by r a
-  where
-    by : (x : Result C Stop) → Answers seen world first w x u → Continues (λ made. next (seen made)) world (first >>= next) w x u
-    by (Ok made) o = record { goes = behind_given next o.given; stopped = tt }
-    by (Err (S.Ended ending)) o = record { goes = tt; stopped = ends world first next w u (view_ending ending) o.stopped }
-    by (Err S.NoMemory) o = record { goes = tt; stopped = tt }
-
--- behind what stops
-pub stops_on : {A B : Type 0} (world : World) (first : Act A) (w u : Shown) (why : Stop) (next : A → Act B) → Stops world first w why u → Stops world (first >>= next) w why u
-stops_on world first w u (S.Ended ending) next run = ends world first next w u (view_ending ending) run
-stops_on world first w u S.NoMemory next run = tt
-
--- what code answered that did the first steps
-pub goes_by : {A B : Type 0} {left : B → Act A} {world : World} {act : Act A} {made : B} {w u : Shown} {r : Result B Stop} → Continues left world act w r u → r ≡ Ok made → Leads world act w (left made) u
-goes_by {left = left} {world = world} {act = act} {w = w} {u = u} c is = subst (λ x. IfOk x (λ b. Leads world act w (left b) u)) is c.goes
-
-pub stops_by : {A B : Type 0} {left : B → Act A} {world : World} {act : Act A} {stop : Stop} {w u : Shown} {r : Result B Stop} → Continues left world act w r u → r ≡ Err stop → Stops world act w stop u
-stops_by {world = world} {act = act} {w = w} {u = u} c is = subst (λ x. IfErr x (λ s. Stops world act w s u)) is c.stopped
-
--- how a run ends
-pub ends_continue : {A B : Type 0} {left : B → Act A} {world : World} {w : Shown} {ending : acts.Ending} {s : Stop} → told_stop s ≡ Some ending → Continues left world (acts.stop ending) w (Err s) w
-ends_continue {A = A} {left = left} {world = world} {w = w} {ending = ending} {s = s} e = by s e
-  where
-    by : (x : Stop) → told_stop x ≡ Some ending → Continues left world (acts.stop {A = A} ending) w (Err x) w
-    by (S.Ended y) e =
-        let is : ending ≡ view_ending y = cc e in
-        record { goes = tt; stopped = subst (λ q. Runs world (acts.stop {A = A} ending) w (Err q) w) is (stopped world ending w) }
-    by S.NoMemory e = cc e
 
 module _ {main : Body} {world : World} {call : Call} {callers : List Call} where
   -- what the act leads to
@@ -165,10 +128,6 @@ module _ {main : Body} {world : World} {callers : List Call} {before : Shown} (o
       by : (x : Result (Unit {0}) Stop) → StepsAt main world new callers other before x m behind → StepsAt main world old callers act before x m behind
       by (Ok d) o = record { goes = λ st end at. o.goes st end (stands_reached st at); stopped = tt }
       by (Err why) o = record { goes = tt; stopped = λ st end at. o.stopped st end (stands_reached st at) }
-
--- the last of the list
-pub popped_is : (todo : List Todo) (first : Todo) (items : List Todo) (e : Env) (n : ℕ) (told : Told) → items ≡ todo ++ first ∷ [] → (rest : Rest) → resume items rest e n told ≡ after first (resume todo rest) e n told
-popped_is todo first items e n told is rest = ap (λ all. resume all rest e n told) is ∙ ap (λ (r : Rest). r e n told) (resume_last todo first rest)
 
 -- a call that has nothing left to do is left by no flow
 pub steps_unleft : {main : Body} {world : World} {callers : List Call} {before : Shown} {m : Machine} (call : Call) (e : Env) (n : ℕ) (flow : execution.Flow) → call.todo.items ≡ []

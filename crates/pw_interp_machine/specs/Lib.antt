@@ -1,7 +1,5 @@
 pub mod Bodies
 pub mod Ends
-pub mod Library
-pub mod Locals
 pub mod Orders
 pub mod Waiting
 pub mod Standing

@@ -13,23 +13,12 @@ use Rattle.pw_interp_calls.specs.declared.ending.Stop.TheVariants as S
 use Rattle.pw_interp_calls.specs.Answers.{Stops}
 use Rattle.pw_interp_calls.specs.Endings.{view_ending}
 use Rattle.pw_interp_calls.specs.Views.{view_env}
-use Rattle.pw_interp_todo.specs.declared.todo.Control.{Control}
-use Rattle.pw_interp_todo.specs.Leading.{Leads, Continues}
+use Rattle.pw_interp_todo.specs.Leading.{Leads}
 use Rattle.pw_interp_todo.specs.Resuming.{Rest, Flowed, resume, control_act}
-use Rattle.pw_interp_machine.specs.declared.machine.Call.{Call}
+use Rattle.pw_interp_steps.specs.declared.call.Call.{Call}
 use Rattle.pw_interp_machine.specs.declared.machine.Machine.{Machine}
 use Rattle.pw_interp_machine.specs.Waiting.{Active, leave, ended}
 use Rattle.pw_interp_machine.specs.Standing.{InCall, StandsAt, Stands}
-
--- ---- a step that stays in a call
-
--- Whatever comes behind the call: what is done now, with what the call has left to do, leads to what was to be done with what it
--- had left.
-pub record StepsCall (old : Call) (act : Rest → Act (Unit {0})) (before : Shown) (result : Result Control Stop) (new : Call) (behind : Shown) : Type 0 where
-  pub steps : (rest : Rest) → Continues (λ c. control_act c (view_env new.env) new.bound (resume new.todo.items rest)) (view_env old.env).world
-      (act (resume old.todo.items rest)) before result behind
-  pub room : new.before ≡ old.before
-  pub stands : (view_env new.env).world ≡ (view_env old.env).world
 
 -- ---- a call that begins
 

@@ -2,22 +2,15 @@
 //! calls nor phrases of the program nest in calls of the machine.
 #![tactic(auto)]
 
-mod arguments;
-mod blocks;
-mod callees;
 mod calls;
-mod controls;
-mod library;
 mod machine;
-mod parameters;
-mod pushes;
 mod results;
 mod runs;
 mod settling;
 mod steps;
 mod streams;
 
-pub use machine::{Call, Machine};
+pub use machine::Machine;
 pub use runs::start;
 pub use steps::step;
 pub use streams::{receive, sent, transfer_of};

@@ -12,9 +12,10 @@ ghost use Rattle.pw_interp_machine.specs.Stepping.{Begins, Starts};
 ghost use Rattle.pw_interp_machine.specs.Orders.{then_finished};
 
 use crate::calls::begin_bounded;
-use crate::machine::{Call, Machine};
+use crate::machine::Machine;
 use pw_interp_calls::{Stop, World};
 use pw_interp_state::State;
+use pw_interp_steps::Call;
 use pw_interp_todo::{Control, Doing, Entry, Part};
 use pw_interp_world::{Body, Part as Module};
 use pw_typed::TFunction;

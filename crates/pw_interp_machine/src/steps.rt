@@ -11,11 +11,11 @@ ghost use Rattle.pw_interp_machine.specs.Stepping.{Steps, StepsAt};
 ghost use Rattle.pw_interp_machine.specs.Streaming.{is_inside};
 
 use crate::calls::{call_listed, give_back};
-use crate::controls::{arguments_step, ask_step, do_step, flowed_step, gave_step};
 use crate::machine::Machine;
 use crate::settling::settle;
 use pw_interp_calls::{Ending, Stop};
 use pw_interp_state::State;
+use pw_interp_steps::{arguments_step, ask_step, do_step, flowed_step, gave_step};
 use pw_interp_todo::{Control, Flow};
 use pw_interp_world::Body;
 use pw_value::Value;

@@ -6,7 +6,8 @@ use Rattle.std.specs.Str.{IsUtf8, bytes_eq, chars, encode_utf8_all}
 use Rattle.std.proofs.lemmas.Str.{encodes-chars}
 use Rattle.clap.specs.Lexer.{long_of, name_and_value, short_of}
 use Rattle.clap.specs.Walk.{Text}
-use Rattle.pw_top_words.specs.CommandLine.{is_dashed, is_named}
+use Rattle.pw_top_switch.specs.Switch.{is_named}
+use Rattle.pw_top_words.specs.CommandLine.{is_dashed}
 
 -- `--`
 pub record Ends (word : Text) : Type 0 where

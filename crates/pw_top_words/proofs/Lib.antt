@@ -3,6 +3,5 @@ pub mod Classes
 pub mod Numerals
 pub mod Parses
 pub mod Said
-pub mod Switches
 pub mod Walks
 pub mod Within

@@ -3,7 +3,8 @@ use Rattle.std.proofs.Common.{◌≡◌, ℕ, ◌<◌, ◌≤◌, ◌^◌, ◌&&
 use Rattle.std.specs.Str.Parse.{ParsesUnsigned, digits_value}
 use Rattle.std.proofs.lemmas.Bool.{leb-true}
 use Rattle.std.proofs.lemmas.Str.Parse.{IsNumeralModel, digits_value_short, numerals_by_value, parse_gives}
-use Rattle.pw_top_words.specs.CommandLine.{Text, are_digits, is_numeral}
+use Rattle.pw_top_switch.specs.Switch.{Text}
+use Rattle.pw_top_words.specs.CommandLine.{are_digits, is_numeral}
 
 own : IsNumeralModel (λ ds. are_digits ds ≡ true) (digits_value 10)
 own = numerals_by_value _ (search rules)

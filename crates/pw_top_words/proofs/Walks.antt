@@ -14,7 +14,8 @@ use Rattle.clap.specs.declared.error.kind.ErrorKind.{ErrorKind}
 use Rattle.clap.specs.declared.error.kind.ErrorKind.TheVariants as kind
 use Rattle.clap.specs.declared.parser.matches.ValueSource.TheVariants.{CommandLine}
 use Rattle.clap.specs.declared.builder.value_parser.ValueParser.TheVariants as vp
-use Rattle.pw_top_words.specs.CommandLine.{Part, Given, Plain, fits, fitting, has_value, is_among, is_dashed, option_name, option_value, parts_from, with_part, without_name}
+use Rattle.pw_top_switch.specs.Switch.{has_value}
+use Rattle.pw_top_words.specs.CommandLine.{Part, Given, Plain, fits, fitting, is_among, is_dashed, option_name, option_value, parts_from, with_part, without_name}
 use Rattle.pw_top_words.specs.Reading.{operand_id, part_row, row}
 use Rattle.pw_top_words.proofs.Asked.{HasRules, eq_itself, operand_rule, option_rule, shaped}
 use Rattle.pw_top_words.proofs.Classes.{Class, Ends, Names, IsShort, IsBare, is_end, is_option, is_short, is_bare, classify}

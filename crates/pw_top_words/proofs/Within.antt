@@ -8,7 +8,8 @@ use Rattle.pw_store_modules.specs.Modules.{is_module_name}
 use Rattle.pw_build_opts.specs.declared.opts.RunOpts.{RunOpts}
 use Rattle.pw_top_words.specs.declared.commands.Command.{Command}
 use Rattle.pw_top_words.specs.declared.commands.Command.TheVariants.{Go, Build, Session, PhaseOne, Analyse, PhaseTwo, Link, Run, List as ListImage, Db, Bench, Where, Preprocess, Interp}
-use Rattle.pw_top_words.specs.CommandLine.{Text, Part, is_numeral, number_in, number_or, value_of, colours, stack, steps, colours_in, stack_in, steps_in, module_named, module_in, plain_word, parts_of, seed_in, call_in, call_limit, built_with, run_with, is_switched, unswitched, with_build, with_run, go_of, build_of, session_of, analyse_of, link_of, run_of, bench_of, where_of, interp_of, command_by_name, command_of, usual_stack}
+use Rattle.pw_top_switch.specs.Switch.{Text, is_switched, unswitched}
+use Rattle.pw_top_words.specs.CommandLine.{Part, is_numeral, number_in, number_or, value_of, colours, stack, steps, colours_in, stack_in, steps_in, module_named, module_in, plain_word, parts_of, seed_in, call_in, call_limit, built_with, run_with, with_build, with_run, go_of, build_of, session_of, analyse_of, link_of, run_of, bench_of, where_of, interp_of, command_by_name, command_of, usual_stack}
 use Rattle.pw_top_words.specs.Limits.{IsStack, IsWithin}
 use Rattle.pw_db.specs.Limits.{colour_limit}
 

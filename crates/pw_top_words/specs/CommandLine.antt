@@ -1,5 +1,5 @@
 -- The words of a command line, and the command that they say.
-use Rattle.std.specs.Prelude.{◌≡◌, ℕ, zero, suc, ◌==◌, ◌&&◌, not, Bool, true, false, nat_le, if◌then◌else◌, List, [], ◌∷◌, map, filter, drop, take, ◌++◌, length, codes, is_some, Option, Some, None, option_map, option_and_then, Result, Ok, Err}
+use Rattle.std.specs.Prelude.{◌≡◌, ℕ, zero, suc, ◌==◌, ◌&&◌, not, Bool, true, false, nat_le, if◌then◌else◌, List, [], ◌∷◌, map, filter, drop, length, codes, Option, Some, None, option_map, option_and_then, Result, Ok, Err}
 use Rattle.std.specs.List.{list_any, list_all, before_first, after_first}
 use Rattle.std.specs.Char.{is_ascii_digit}
 use Rattle.std.specs.Str.{bytes_eq}
@@ -8,14 +8,12 @@ use Rattle.pw_value.specs.Limits.{stack_least, stack_limit}
 use Rattle.pw_store_modules.specs.Modules.{is_module_name}
 use Rattle.pw_build_opts.specs.declared.opts.Opts.{Opts}
 use Rattle.pw_build_opts.specs.declared.opts.RunOpts.{RunOpts}
+use Rattle.pw_top_switch.specs.Switch.{Text, is_named, is_equals, has_value, is_switched, unswitched}
 use Rattle.pw_top_words.specs.declared.fault.WordsFault.{WordsFault}
 use Rattle.pw_top_words.specs.declared.fault.WordsFault.TheVariants.{Usage, NoMemory}
 use Rattle.pw_top_words.specs.declared.commands.Command.{Command}
 use Rattle.pw_top_words.specs.declared.commands.Command.TheVariants.{Go, Build, Session, PhaseOne, Analyse, PhaseTwo, Link, Run, List as ListImage, Db, Bench, Where, Preprocess, Interp}
 use Rattle.pw_db.specs.Limits.{colour_limit}
-
-abbrev pub Text : Type 0
-Text = List ℕ
 
 -- ---- the parts of the words
 
@@ -29,21 +27,9 @@ abbrev pub is_dashed : Text → Bool
 is_dashed (first ∷ second ∷ rest) = first == 45
 is_dashed word = false
 
--- the word begins with `--`
-abbrev pub is_named : Text → Bool
-is_named (first ∷ second ∷ rest) = (first == 45) && (second == 45)
-is_named word = false
-
--- `=`
-abbrev pub is_equals : ℕ → Bool
-is_equals byte = byte == 61
-
 -- what stands behind `--`, up to the first `=`, and behind it
 abbrev pub option_name : Text → Text
 option_name word = before_first is_equals (drop 2 word)
-
-abbrev pub has_value : Text → Bool
-has_value word = list_any is_equals (drop 2 word)
 
 abbrev pub option_value : Text → Text
 option_value word = after_first is_equals (drop 2 word)
@@ -62,34 +48,6 @@ parts_from None (word ∷ words) =
     (if has_value word then with_part (Given (option_name word) (option_value word)) (parts_from None words)
     else parts_from (Some (option_name word)) words) else
     if is_dashed word then None else with_part (Plain word) (parts_from None words)
-
--- ---- the switch
-
--- the word that asks for optimised flow graphs
-abbrev pub switch : Text
-switch = codes "-O"
-
--- The place of the first switch: a word that is no option's value, in front of `--`. It tells whether an option waits for
--- its value, which is the next word.
-abbrev pub switch_from : Bool → List Text → Option ℕ
-switch_from waits [] = None
-switch_from true (word ∷ words) = option_map suc (switch_from false words)
-switch_from false (word ∷ words) =
-    if bytes_eq word (codes "--") then None else
-    if bytes_eq word switch then Some 0 else
-    option_map suc (switch_from (is_named word && not (has_value word)) words)
-
--- whether words ask for optimised flow graphs
-abbrev pub is_switched : List Text → Bool
-is_switched words = is_some (switch_from false words)
-
-abbrev pub without_place : Option ℕ → List Text → List Text
-without_place None words = words
-without_place (Some n) words = take n words ++ drop (suc n) words
-
--- the other words; a second switch among them is no part of theirs
-abbrev pub unswitched : List Text → List Text
-unswitched words = without_place (switch_from false words) words
 
 -- ---- which parts a command takes
 

@@ -13,7 +13,8 @@ use Rattle.clap.specs.declared.parser.matches.ArgMatches.{ArgMatches}
 use Rattle.clap.specs.declared.parser.matches.ValueSource.TheVariants.{CommandLine}
 use Rattle.pw_top_words.specs.declared.fault.WordsFault.{WordsFault}
 use Rattle.pw_top_words.specs.declared.fault.WordsFault.TheVariants.{Usage, NoMemory}
-use Rattle.pw_top_words.specs.CommandLine.{Text, Part, Given, Plain, is_among, parts_of}
+use Rattle.pw_top_switch.specs.Switch.{Text}
+use Rattle.pw_top_words.specs.CommandLine.{Part, Given, Plain, is_among, parts_of}
 
 -- ---- the arguments that are asked for
 

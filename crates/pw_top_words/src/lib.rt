@@ -7,7 +7,6 @@ pub mod laws;
 mod numbers;
 mod reader;
 mod reading;
-mod switch;
 
 pub use commands::Command;
 pub use fault::WordsFault;

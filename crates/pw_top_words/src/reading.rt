@@ -2,18 +2,19 @@
 
 ghost use Rattle.std.specs.Prelude.{◌≡◌, ◌≢◌, ◌≤◌, ℕ, List, None, Err, IfErr, IfOk, drop, map, string_bytes, codes, option_map, option_and_then, Option};
 ghost use Rattle.clap.specs.Matches.{first_value, found_of};
-ghost use Rattle.pw_top_words.specs.CommandLine.{Part, Reads, is_switched, unswitched, colours_in, command_of, go_of, command_by_name, module_in, number_or, parts_of, seed_in, stack_in, steps_in, with_build, with_run, build_of, session_of, bench_of, phase_one_of, phase_two_of, analyse_of, link_of, run_of, list_of, db_of, where_of, call_in, call_limit, digits_limit, usual_stack, steps_limit, seed_limit, usual_steps, preprocess_of, interp_of};
+ghost use Rattle.pw_top_switch.specs.Switch.{is_switched, unswitched};
+ghost use Rattle.pw_top_words.specs.CommandLine.{Part, Reads, colours_in, command_of, go_of, command_by_name, module_in, number_or, parts_of, seed_in, stack_in, steps_in, with_build, with_run, build_of, session_of, bench_of, phase_one_of, phase_two_of, analyse_of, link_of, run_of, list_of, db_of, where_of, call_in, call_limit, digits_limit, usual_stack, steps_limit, seed_limit, usual_steps, preprocess_of, interp_of};
 ghost use Rattle.pw_top_words.specs.Reading.{IsMatchOf};
 
 use crate::commands::Command;
 use crate::fault::WordsFault;
 use crate::numbers::{DIGITS_LIMIT, number_in};
 use crate::reader::{OPERAND, read_parts};
-use crate::switch::line_of;
 use clap::ArgMatches;
 use pw_build_opts::{Opts, RunOpts};
 use pw_db::COLOUR_LIMIT;
 use pw_store_modules::is_module_name;
+use pw_top_switch::line_of;
 use pw_value::limits::{STACK_LEAST, STACK_LIMIT};
 use pw_value::{Name, NameError};
 use std::alloc::Global;

@@ -7,7 +7,7 @@ use Rattle.pw_interp_todo.specs.Members.{arms_from, arms_in, otherwise_in}
 use Rattle.pw_interp_todo.specs.Parts.{met_arms}
 use Rattle.pw_interp_flows.specs.Behind.{behind_arm, onward_act, view_onward}
 use Rattle.pw_interp_flows.proofs.Following.{arms_are}
-use Rattle.pw_interp_flows.proofs.Listing.{arms_drop}
+use Rattle.pw_interp_entries.proofs.Listing.{arms_drop}
 use Rattle.pw_interp_flows.proofs.behind.later_arms.Goals as goal
 
 pub returns-in-Met : goal.returns-in-Met

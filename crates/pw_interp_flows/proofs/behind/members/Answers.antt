@@ -7,7 +7,7 @@ use Rattle.pw_interp_todo.specs.Flows.{view_flow}
 use Rattle.pw_interp_todo.specs.Members.{members_from, members_in}
 use Rattle.pw_interp_flows.specs.Behind.{onward, onward_act, view_onward}
 use Rattle.pw_interp_flows.proofs.Following.{members_are}
-use Rattle.pw_interp_flows.proofs.Listing.{members_drop}
+use Rattle.pw_interp_entries.proofs.Listing.{members_drop}
 use Rattle.pw_interp_flows.proofs.behind.members.Goals as goal
 
 pub returns-in-Met : goal.returns-in-Met

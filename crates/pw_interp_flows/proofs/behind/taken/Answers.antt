@@ -5,7 +5,7 @@ use Rattle.pw_interp_todo.specs.Flows.{view_flow}
 use Rattle.pw_interp_todo.specs.Members.{taken_in}
 use Rattle.pw_interp_todo.specs.Parts.{again_act}
 use Rattle.pw_interp_flows.proofs.Following.{caught_none, caught_some}
-use Rattle.pw_interp_flows.proofs.Listing.{again_is}
+use Rattle.pw_interp_entries.proofs.Listing.{again_is}
 use Rattle.pw_interp_flows.proofs.behind.taken.Goals as goal
 
 pub returns-in-Some : goal.returns-in-Some

@@ -6,7 +6,7 @@ use Rattle.pw_cmean.specs.SourceRun.{calls}
 use Rattle.pw_interp_todo.specs.Flows.{view_entry}
 use Rattle.pw_interp_todo.specs.Parts.{inside}
 use Rattle.pw_interp_flows.proofs.Forming.{list_some, no_list}
-use Rattle.pw_interp_flows.proofs.Listing.{member_at, member_past}
+use Rattle.pw_interp_entries.proofs.Listing.{member_at, member_past}
 use Rattle.pw_interp_flows.proofs.initialisers.list.Goals as goal
 
 pub returns-in-Some : goal.returns-in-Some

@@ -3,7 +3,7 @@ use Rattle.std.proofs.Common.{ap, ◌∙◌}
 use Rattle.pw_cmean.specs.SourceRun.{calls}
 use Rattle.pw_interp_todo.specs.Going.{arm_or_rest}
 use Rattle.pw_interp_todo.specs.Members.{arms_from, arms_in, otherwise_in}
-use Rattle.pw_interp_flows.proofs.Listing.{rest_met, rest_unmet}
+use Rattle.pw_interp_entries.proofs.Listing.{rest_met, rest_unmet}
 use Rattle.pw_interp_flows.proofs.uses.arm_or_rest.Goals as goal
 
 pub returns-then-met : goal.returns-then-met

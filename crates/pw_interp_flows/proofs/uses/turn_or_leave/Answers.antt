@@ -2,7 +2,7 @@ use Rattle.std.proofs.Common.{ap, ◌∙◌}
 use Rattle.pw_typed.specs.Views.{view_stmt}
 use Rattle.pw_cmean.specs.SourceRun.{calls}
 use Rattle.pw_interp_todo.specs.Loops.{turn_or_leave}
-use Rattle.pw_interp_flows.proofs.Turning.{left, turned}
+use Rattle.pw_interp_entries.proofs.Turning.{left, turned}
 use Rattle.pw_interp_flows.proofs.uses.turn_or_leave.Goals as goal
 
 pub returns-then-more : goal.returns-then-more

@@ -8,7 +8,7 @@ use Rattle.pw_interp_calls.specs.Views.{view_env}
 use Rattle.pw_interp_todo.specs.Going.{arm_tested}
 use Rattle.pw_interp_todo.specs.Members.{otherwise_in}
 use Rattle.pw_interp_todo.proofs.LeadLaws.{followed, left_so, named, same_lead, stays, then_more, then_stops}
-use Rattle.pw_interp_flows.proofs.Listing.{arm_at_place, arm_past}
+use Rattle.pw_interp_entries.proofs.Listing.{arm_at_place, arm_past}
 use Rattle.pw_interp_flows.proofs.uses.use_in_arm.Goals as goal
 
 pub returns-in_err-met-in-Some : goal.returns-in_err-met-in-Some

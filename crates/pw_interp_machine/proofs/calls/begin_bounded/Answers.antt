@@ -2,7 +2,7 @@ use Rattle.std.proofs.Common.{rules}
 use Rattle.pw_interp_calls.specs.Functions.{callable_of}
 use Rattle.pw_interp_calls.specs.WorldViews.{view_world}
 use Rattle.pw_interp_world.specs.declared.program.Body.TheVariants as B
-use Rattle.pw_interp_machine.proofs.Opening.{begins_err, bound_ends}
+use Rattle.pw_interp_machine.proofs.Entering.{begins_err, bound_ends}
 use Rattle.pw_interp_machine.proofs.calls.begin_bounded.Goals as goal
 
 pub returns-in_err-bound : goal.returns-in_err-bound

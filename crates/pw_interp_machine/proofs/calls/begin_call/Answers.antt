@@ -7,7 +7,7 @@ use Rattle.pw_interp_calls.specs.Views.{view_env}
 use Rattle.pw_interp_calls.specs.WorldViews.{view_world}
 use Rattle.pw_interp_calls.specs.declared.ending.Ending.TheVariants as E
 use Rattle.pw_interp_calls.specs.declared.ending.Stop.TheVariants as S
-use Rattle.pw_interp_machine.proofs.Opening.{begins_err, begins_full, begins_opened, framed}
+use Rattle.pw_interp_machine.proofs.Entering.{begins_err, begins_full, begins_opened, framed}
 use Rattle.pw_interp_machine.proofs.Rooms.{full_test, room_test}
 use Rattle.pw_interp_machine.proofs.calls.begin_call.Goals as goal
 

@@ -6,7 +6,7 @@ use Rattle.pw_interp_state.specs.Shown.{view_state}
 use Rattle.pw_interp_calls.specs.Functions.{callable_of}
 use Rattle.pw_interp_calls.specs.Views.{view_env}
 use Rattle.pw_interp_todo.specs.Resuming.{Gave}
-use Rattle.pw_interp_machine.proofs.CallLaws.{defined_is}
+use Rattle.pw_interp_machine.proofs.Entering.{defined_is}
 use Rattle.pw_interp_machine.proofs.Standings.{steps_named}
 use Rattle.pw_interp_machine.proofs.calls.call_function.Goals as goal
 

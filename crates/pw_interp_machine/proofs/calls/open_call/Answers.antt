@@ -6,8 +6,9 @@ use Rattle.pw_interp_calls.specs.declared.ending.Stop.TheVariants as S
 use Rattle.pw_interp_calls.proofs.AnswerLaws.{given_by}
 use Rattle.pw_interp_state.specs.Shown.{view_state}
 use Rattle.pw_interp_machine.specs.Bodies.{with_arguments}
-use Rattle.pw_interp_machine.proofs.Entering.{locals_stop}
-use Rattle.pw_interp_machine.proofs.Opening.{active_leads, active_stops, answers_in, made_world, opens_so, opens_stopped}
+use Rattle.pw_interp_functions.proofs.LocalLaws.{locals_stop}
+use Rattle.pw_interp_functions.proofs.LocalLaws.{made_world}
+use Rattle.pw_interp_machine.proofs.Entering.{active_leads, active_stops, answers_in, opens_so, opens_stopped}
 use Rattle.pw_interp_machine.proofs.Standings.{answer_stops}
 use Rattle.pw_interp_machine.proofs.calls.open_call.Goals as goal
 

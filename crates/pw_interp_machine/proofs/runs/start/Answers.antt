@@ -5,7 +5,7 @@ use Rattle.pw_interp_state.specs.Shown.{view_state}
 use Rattle.pw_interp_calls.specs.Functions.{callable_of}
 use Rattle.pw_interp_calls.specs.WorldViews.{view_world}
 use Rattle.pw_interp_world.specs.declared.program.Body.TheVariants as B
-use Rattle.pw_interp_machine.proofs.CallLaws.{defined_is}
+use Rattle.pw_interp_machine.proofs.Entering.{defined_is}
 use Rattle.pw_interp_machine.proofs.Standings.{starts_named}
 use Rattle.pw_interp_machine.proofs.runs.start.Goals as goal
 

@@ -1,5 +1,6 @@
 use Rattle.std.proofs.Common.{Bool, List, drop, map, string_bytes, subst}
-use Rattle.pw_top_words.specs.CommandLine.{Text, Reads, command_by_name, unswitched}
+use Rattle.pw_top_switch.specs.Switch.{Text, unswitched}
+use Rattle.pw_top_words.specs.CommandLine.{Reads, command_by_name}
 use Rattle.pw_top_words.proofs.reading.command_behind.Goals as goal
 
 pub returns : goal.returns

@@ -1,6 +1,7 @@
 use Rattle.std.proofs.Common.{◌≡◌, Some, None, option_map, true, false, sym, ap, ◌∙◌}
 use Rattle.pw_store_modules.specs.Modules.{is_module_name}
-use Rattle.pw_top_words.specs.CommandLine.{Text, plain_word}
+use Rattle.pw_top_switch.specs.Switch.{Text}
+use Rattle.pw_top_words.specs.CommandLine.{plain_word}
 use Rattle.pw_top_words.proofs.Said.{module_found, module_missing, module_refused, module_said, names_a_module}
 use Rattle.pw_top_words.proofs.reading.module.Goals as goal
 

@@ -1,0 +1,3 @@
+mod LabelLemmas
+pub mod Listing
+pub mod Turning

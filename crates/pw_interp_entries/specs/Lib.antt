@@ -1,0 +1,4 @@
+pub mod Entering
+pub mod Last
+pub mod Looping
+pub mod Orders
