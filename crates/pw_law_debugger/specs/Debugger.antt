@@ -17,7 +17,7 @@ use Rattle.pw_law_truth.specs.Truth.{ComesToCall, TellTrue}
 -- The lines are true of the program's k-th call over the input, if the program is defined on it and comes to that call on its
 -- stack, each call taking the stack that its function takes in the image.
 pub record TellsTruth (files : Files) (opts : RunOpts) (k : ℕ) (input lines : List ℕ) (p : Program) : Type 0 where
-  -- the image of the full build of the modules that these files, as a build sees them, hold
+  -- the image of the full build of the files' modules
   pub bytes : List ℕ
   pub builds : BuildsImage (module_map files) opts.build (Ok bytes)
   pub contents : Contents Image
