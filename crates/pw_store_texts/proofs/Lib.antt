@@ -1,4 +1,6 @@
+pub mod BytesLemmas
 pub mod ComeLemmas
+pub mod CrowdLemmas
 pub mod EndingLemmas
 pub mod HeaderLemmas
 pub mod OutputLemmas

@@ -1,3 +1,4 @@
+pub mod Bytes
 pub mod Headers
 pub mod Names
 pub mod Outputs

@@ -1,6 +1,7 @@
 //! The texts of a store that are preprocessed: the C sources of modules, and headers; and what comes of them.
 #![tactic(auto)]
 
+mod bytes;
 mod compiled;
 mod headers;
 mod laws;
@@ -11,6 +12,7 @@ mod place;
 mod source;
 mod sources;
 
+pub use bytes::text_bytes;
 pub use compiled::Compiled;
 pub use headers::{TEXT_READ, read_headers};
 pub use laws::{
