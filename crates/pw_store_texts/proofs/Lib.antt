@@ -3,6 +3,7 @@ pub mod ComeLemmas
 pub mod CrowdLemmas
 pub mod EndingLemmas
 pub mod HeaderLemmas
+pub mod NamedLemmas
 pub mod OutputLemmas
 pub mod Picking
 pub mod PlaceLemmas
