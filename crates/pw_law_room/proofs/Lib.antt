@@ -1,0 +1,3 @@
+pub mod Names
+mod Parts
+pub mod Running
