@@ -1,11 +1,12 @@
 -- Builds over the files of a store, and the command.
-use Rattle.std.proofs.Common.{◌≡◌, ◌⊎◌, ℕ, List, [], Option, Result, Ok, Err, refl, sym, ap, ◌∙◌, inl, inr}
+use Rattle.std.proofs.Common.{◌≡◌, ◌⊎◌, ℕ, List, [], Option, Result, Ok, Err, refl, sym, ap, subst, ◌∙◌, inl, inr}
 use Rattle.std.specs.Prelude.{IfErr}
 use Rattle.std.specs.List.{AllByRecursion}
 use Rattle.pw_io.specs.Faults.{Rose}
 use Rattle.pw_io.specs.Files.{Files, Told}
 use Rattle.pw_object.specs.declared.object.Object.{Object}
 use Rattle.pw_store_modules.specs.Modules.{Source, module_map, modules_of}
+use Rattle.pw_store_texts.specs.Seen.{IsSeen}
 use Rattle.pw_build_objects.specs.Kept.{IsGenuineIfKept}
 use Rattle.pw_build_files.specs.FromBuild.BuildFault.{BuildFault}
 use Rattle.pw_build_files.specs.FromBuild.BuildFault.TheVariants as build
@@ -19,6 +20,7 @@ use Rattle.pw_build_files.specs.Building.{BuildOutcome, Outcome}
 use Rattle.pw_build_files.specs.Full.{BuildsImage, image_of}
 use Rattle.pw_build_files.specs.Genuine.{KeepsGenuine}
 use Rattle.pw_build_files.specs.Outcomes.{FaultCount, FaultFound, ObeysBuild, fault_answer}
+use Rattle.pw_build_files.specs.Seen.{SeenOutcome}
 use Rattle.pw_build_opts.specs.declared.opts.Opts.{Opts}
 use Rattle.pw_build_files.specs.declared.report.Report.{Report}
 use Rattle.pw_commands.specs.Outcome.{IsFound}
@@ -33,42 +35,49 @@ pub not_refused : ((sources : List Source) (kept : List (Option Object)) (opts :
 not_refused never anew files opts fault can genuine comes =
     never (modules_of files) [] opts fault can tt (anew files opts (Err fault) genuine comes)
 
-module _ (never : (files : Files) (opts : Opts) (fault : BuildFault) → CanBeBuilt (modules_of files) opts → KeepsGenuine files → ¬ BuildOutcome files opts (Err fault)) where
+module _ (never : (files : Files) (opts : Opts) (fault : BuildFault) → CanBeBuilt (modules_of files) opts → KeepsGenuine files → ¬ BuildOutcome files opts (Err fault))
+    (one : (files shown other : Files) → IsSeen files shown → IsSeen files other → shown ≡ other)
+    (keeps : (files shown : Files) → IsSeen files shown → KeepsGenuine files → KeepsGenuine shown) where
+  -- over the files as a build sees them
+  never_seen : (files shown : Files) (opts : Opts) (fault : BuildFault) → IsSeen files shown → CanBeBuilt (modules_of shown) opts → KeepsGenuine files → SeenOutcome files opts (Err fault) → ⊥
+  never_seen files shown opts fault is can genuine comes =
+      never shown opts fault can (keeps files shown is genuine) (subst (λ (f : Files). BuildOutcome f opts (Err fault)) (one files comes.0 shown comes.1 is) comes.2)
+
   -- ---- a build
 
-  by_fault : (files : Files) (opts : Opts) (fault : BuildFault) (before now : ℕ) → CanBeBuilt (modules_of files) opts → KeepsGenuine files → FaultFound files opts fault → StoreCount before now (fault_answer fault) → ¬ Rose before now
+  by_fault : (files shown : Files) (opts : Opts) (fault : BuildFault) (before now : ℕ) → IsSeen files shown → CanBeBuilt (modules_of shown) opts → KeepsGenuine files → FaultFound files opts fault → StoreCount before now (fault_answer fault) → ¬ Rose before now
       → fault ≡ build.NoMemory
-  by_fault files opts (build.Refused name refusal) before now can genuine found count rose = absurd (never files opts (build.Refused name refusal) can genuine found)
-  by_fault files opts (build.LinkRefused fault) before now can genuine found count rose = absurd (never files opts (build.LinkRefused fault) can genuine found)
-  by_fault files opts build.StoreFault before now can genuine found count rose = absurd (rose count)
-  by_fault files opts build.NoMemory before now can genuine found count rose = refl
+  by_fault files shown opts (build.Refused name refusal) before now is can genuine found count rose = absurd (never_seen files shown opts (build.Refused name refusal) is can genuine found)
+  by_fault files shown opts (build.LinkRefused fault) before now is can genuine found count rose = absurd (never_seen files shown opts (build.LinkRefused fault) is can genuine found)
+  by_fault files shown opts build.StoreFault before now is can genuine found count rose = absurd (rose count)
+  by_fault files shown opts build.NoMemory before now is can genuine found count rose = refl
 
-  pub complete : (opts : Opts) (result : Result Report Unbuilt) (told : Told) (new : Option Told) (before now : ℕ) → CanBeBuilt (modules_of told.files) opts → KeepsGenuine told.files
+  pub complete : (opts : Opts) (result : Result Report Unbuilt) (told : Told) (new : Option Told) (shown : Files) (before now : ℕ) → IsSeen told.files shown → CanBeBuilt (modules_of shown) opts → KeepsGenuine told.files
       → ObeysBuild opts result told new → FaultCount before now result → ¬ Rose before now → IfErr result (λ unbuilt. unbuilt.fault ≡ build.NoMemory)
-  complete opts (Ok report) told new before now can genuine obeys count rose = tt
-  complete opts (Err unbuilt) told new before now can genuine obeys count rose = by_fault told.files opts unbuilt.fault before now can genuine obeys.found count rose
+  complete opts (Ok report) told new shown before now is can genuine obeys count rose = tt
+  complete opts (Err unbuilt) told new shown before now is can genuine obeys count rose = by_fault told.files shown opts unbuilt.fault before now is can genuine obeys.found count rose
 
   -- ---- the command
 
-  done_by : (files : Files) (opts : Opts) (input : List ℕ) → CanBeBuilt (modules_of files) opts → KeepsGenuine files → (comes : Result Outcome BuildFault) → BuildOutcome files opts comes → (built_effect comes input).answer ≡ answer.Done
-  done_by files opts input can genuine (Ok outcome) comes = refl
-  done_by files opts input can genuine (Err fault) comes = absurd (never files opts fault can genuine comes)
+  done_by : (files shown : Files) (opts : Opts) (input : List ℕ) → IsSeen files shown → CanBeBuilt (modules_of shown) opts → KeepsGenuine files → (comes : Result Outcome BuildFault) → SeenOutcome files opts comes → (built_effect comes input).answer ≡ answer.Done
+  done_by files shown opts input is can genuine (Ok outcome) comes = refl
+  done_by files shown opts input is can genuine (Err fault) comes = absurd (never_seen files shown opts fault is can genuine comes)
 
-  effect_done : (files : Files) (opts : Opts) (input : List ℕ) → CanBeBuilt (modules_of files) opts → KeepsGenuine files → (effect : Effect) → BuildEffect files opts input effect → effect.answer ≡ answer.Done
-  effect_done files opts input can genuine effect h = ap (λ (e : Effect). e.answer) h.2 ∙ done_by files opts input can genuine h.0 h.1
+  effect_done : (files shown : Files) (opts : Opts) (input : List ℕ) → IsSeen files shown → CanBeBuilt (modules_of shown) opts → KeepsGenuine files → (effect : Effect) → BuildEffect files opts input effect → effect.answer ≡ answer.Done
+  effect_done files shown opts input is can genuine effect h = ap (λ (e : Effect). e.answer) h.2 ∙ done_by files shown opts input is can genuine h.0 h.1
 
   -- an answer that is found is that of an effect
   abbrev IsAnswered : Files → Opts → List ℕ → Answer → Type 0
   IsAnswered files opts input a = (effect : Effect) × BuildEffect files opts input effect × (effect.answer ≡ a)
 
-  found_done : (files : Files) (opts : Opts) (input : List ℕ) → CanBeBuilt (modules_of files) opts → KeepsGenuine files → (a : Answer) → IsAnswered files opts input a → a ≡ answer.Done
-  found_done files opts input can genuine a h = sym h.2 ∙ effect_done files opts input can genuine h.0 h.1
+  found_done : (files shown : Files) (opts : Opts) (input : List ℕ) → IsSeen files shown → CanBeBuilt (modules_of shown) opts → KeepsGenuine files → (a : Answer) → IsAnswered files opts input a → a ≡ answer.Done
+  found_done files shown opts input is can genuine a h = sym h.2 ∙ effect_done files shown opts input is can genuine h.0 h.1
 
-  pub command_complete : (files : Files) (opts : Opts) (input : List ℕ) (a : Answer) (store store' read read' written written' : ℕ) → CanBeBuilt (modules_of files) opts → KeepsGenuine files
+  pub command_complete : (files shown : Files) (opts : Opts) (input : List ℕ) (a : Answer) (store store' read read' written written' : ℕ) → IsSeen files shown → CanBeBuilt (modules_of shown) opts → KeepsGenuine files
       → IsFound (BuildEffect files opts input) a → StoreCount store store' a → InputCount read read' a → OutputCount written written' a → ¬ Rose store store' → ¬ Rose read read' → ¬ Rose written written'
       → (a ≡ answer.Done) ⊎ (a ≡ answer.NoMemory)
-  command_complete files opts input answer.ReadFault store store' read read' written written' can genuine found s r w ns nr nw = absurd (nr r)
-  command_complete files opts input answer.WriteFault store store' read read' written written' can genuine found s r w ns nr nw = absurd (nw w)
-  command_complete files opts input answer.StoreFault store store' read read' written written' can genuine found s r w ns nr nw = absurd (ns s)
-  command_complete files opts input answer.NoMemory store store' read read' written written' can genuine found s r w ns nr nw = inr refl
-  command_complete files opts input a store store' read read' written written' can genuine found s r w ns nr nw = inl (found_done files opts input can genuine a found)
+  command_complete files shown opts input answer.ReadFault store store' read read' written written' is can genuine found s r w ns nr nw = absurd (nr r)
+  command_complete files shown opts input answer.WriteFault store store' read read' written written' is can genuine found s r w ns nr nw = absurd (nw w)
+  command_complete files shown opts input answer.StoreFault store store' read read' written written' is can genuine found s r w ns nr nw = absurd (ns s)
+  command_complete files shown opts input answer.NoMemory store store' read read' written written' is can genuine found s r w ns nr nw = inr refl
+  command_complete files shown opts input a store store' read read' written written' is can genuine found s r w ns nr nw = inl (found_done files shown opts input is can genuine a found)

@@ -8,6 +8,7 @@ ghost use Rattle.pw_flow.specs.declared.flow.FlowModule.{FlowModule};
 ghost use Rattle.pw_db.specs.Limits.{colour_limit};
 ghost use Rattle.pw_object.specs.declared.object.Object.{Object};
 ghost use Rattle.pw_store_modules.specs.Modules.{Source, modules_of};
+ghost use Rattle.pw_store_texts.specs.Seen.{IsSeen};
 ghost use Rattle.pw_build_objects.specs.Kept.{IsGenuineIfKept};
 ghost use Rattle.pw_build_objects.specs.Programs.{Parts};
 ghost use Rattle.pw_build_files.specs.FromBuild.BuildFault.{BuildFault};
@@ -27,12 +28,15 @@ ghost use Rattle.pw_build_files.specs.Driving.{BuildEffect};
 ghost use Rattle.pw_law_shown.specs.Alike.{DeclaresMain};
 ghost use Rattle.pw_law_build.specs.Complete.{CanBeBuilt};
 
-use pw_build_files::{flow_graphs_declare_main, genuine_objects_give_the_full_image};
+use pw_build_files::{
+    flow_graphs_declare_main, genuine_objects_are_seen, genuine_objects_give_the_full_image,
+};
 use pw_build_objects::laws::{
     flow_graphs_have_one_answer, genuine_objects_change_nothing, objects_are_refused_for_room_alone,
 };
 use pw_law_shown::flow_graphs_and_summaries_are_refused_alike;
 use pw_link_rules::laws::modules_have_one_answer;
+use pw_store_texts::files_are_seen_in_one_way;
 
 /// The flow graphs of the modules of a build declare each `main` that they define, since a module that checking accepts
 /// declares what it defines under an external name.
@@ -88,24 +92,28 @@ pub fn a_store_is_built_exactly_where_it_can_be()
     genuine_objects_give_the_full_image();
 }
 
-/// Where a store's modules can be built, its kept objects are genuine and its count of faults did not rise, a build answers
-/// its report; or memory ran out.
+/// Where a store's modules, as a build sees them, can be built, its kept objects are genuine and its count of faults did not rise,
+/// a build answers its report; or memory ran out.
 pub fn builds_are_complete()
-    ensures { (opts : Opts) (result : Result Report Unbuilt) (told : Told) (new : Option Told) (before now : ℕ) →
-        CanBeBuilt (modules_of told.files) opts → KeepsGenuine told.files →
+    ensures { (opts : Opts) (result : Result Report Unbuilt) (told : Told) (new : Option Told) (shown : Files) (before now : ℕ) →
+        IsSeen told.files shown → CanBeBuilt (modules_of shown) opts → KeepsGenuine told.files →
         ObeysBuild opts result told new → FaultCount before now result → ¬ Rose before now →
         IfErr result (λ unbuilt. unbuilt.fault ≡ build.NoMemory) }
 {
     a_store_that_can_be_built_is_built();
+    files_are_seen_in_one_way();
+    genuine_objects_are_seen();
 }
 
 /// The same of the command `build`, whose answer is then that it is done, or that memory ran out.
 pub fn the_command_is_complete()
-    ensures { (files : Files) (opts : Opts) (input : List ℕ) (reply : Answer) (store store' read read' written written' : ℕ) →
-        CanBeBuilt (modules_of files) opts → KeepsGenuine files → IsFound (BuildEffect files opts input) reply →
+    ensures { (files shown : Files) (opts : Opts) (input : List ℕ) (reply : Answer) (store store' read read' written written' : ℕ) →
+        IsSeen files shown → CanBeBuilt (modules_of shown) opts → KeepsGenuine files → IsFound (BuildEffect files opts input) reply →
         StoreCount store store' reply → InputCount read read' reply → OutputCount written written' reply →
         ¬ Rose store store' → ¬ Rose read read' → ¬ Rose written written' →
         (reply ≡ answer.Done) ⊎ (reply ≡ answer.NoMemory) }
 {
     a_store_that_can_be_built_is_built();
+    files_are_seen_in_one_way();
+    genuine_objects_are_seen();
 }
