@@ -2,6 +2,7 @@
 use Rattle.std.specs.Prelude.{ℕ, ◌≡◌, ◌+◌, ◌%◌, ◌≤◌, List, [], ◌∷◌, map, Contains}
 use Rattle.std.specs.List.{AllByRecursion, flat_map, sum_by}
 use Rattle.std.proofs.Common.{arith, subst, sym, ap, ◌∙◌}
+use Rattle.std.proofs.lemmas.List.Sums.{sum_by-cons}
 use Rattle.pw_value.specs.Limits.{memory_size, text_start}
 use Rattle.pw_run_languages.specs.LineRun.{LineFn, Frame, active}
 use Rattle.pw_run_languages.specs.MachineRun.{active_as}
@@ -19,7 +20,9 @@ climbs x f stack [] chain = omega arith
 climbs x f stack (g ∷ gs) chain =
     let rest = climbs x g.function g.stack gs chain.2 in
     let end = chain.1 in
-    omega (arith, rest, end)
+    let all = sum_by-cons (λ (h : Frame). h.function.located.frame) g gs in
+    let same : (first_call g.function g.stack gs).1 + sum_by (λ (h : Frame). h.function.located.frame) (g ∷ gs) ≡ stack = omega (arith, rest, end, all) in
+    same
 
 module _ (x : Setting) (above : text_start ≤ x.addresses.data_start) (base : ℕ) (whole : base % 8 ≡ 0) (even : (g : LineFn) → Contains x.program.functions g → g.located.frame % 8 ≡ 0) where
   aligned : (f : LineFn) (stack : ℕ) (gs : List Frame) → ChainFrom x stack gs → (first_call f stack gs).1 ≡ base → stack % 8 ≡ 0

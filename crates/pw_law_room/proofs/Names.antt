@@ -2,6 +2,7 @@
 use Rattle.std.specs.Prelude.{ℕ, zero, suc, ◌≡◌, ◌+◌, ◌≤◌, List, [], ◌∷◌, map}
 use Rattle.std.specs.List.{sum_by}
 use Rattle.std.proofs.Common.{arith, subst, sym, ap, refl, ◌∙◌}
+use Rattle.std.proofs.lemmas.List.Sums.{sum_by-cons}
 use Rattle.pw_run.specs.Runs.{AreAlike, none, also}
 use Rattle.pw_run_languages.specs.Traces.{Standing, Event, Called, Refused, Returned, Loaded, Stored, SameKind, call, refusal, return, load, store, with_refusal}
 use Rattle.pw_run_languages.specs.Traffic.{Open, with_event, without, active}
@@ -68,15 +69,26 @@ Roomy p log = HasRoom p log × HadRoom p log
 
 less_without : (frame_of : List ℕ → ℕ) (n : ℕ) (ns : List (List ℕ)) → sum_by frame_of (without n ns) ≤ sum_by frame_of ns
 less_without frame_of n [] = omega arith
-less_without frame_of zero (m ∷ ns) = omega arith
-less_without frame_of (suc n) (m ∷ ns) = let rest = less_without frame_of n ns in omega (arith, rest)
+less_without frame_of zero (m ∷ ns) =
+    let all = sum_by-cons frame_of m ns in
+    let less : sum_by frame_of ns ≤ sum_by frame_of (m ∷ ns) = omega (arith, all) in
+    less
+less_without frame_of (suc n) (m ∷ ns) =
+    let rest = less_without frame_of n ns in
+    let all = sum_by-cons frame_of m ns in
+    let left = sum_by-cons frame_of m (without n ns) in
+    let less : sum_by frame_of (m ∷ without n ns) ≤ sum_by frame_of (m ∷ ns) = omega (arith, rest, all, left) in
+    less
 
 pub room_event : {B V : Type 0} (p : Program) (e : Event B V) (log : List (Event B V)) → names_active (e ∷ log) ≡ names_active log → Roomy p log → Roomy p (e ∷ log)
 room_event p e log same h = (subst (λ (ns : List (List ℕ)). sum_by p.frame_of ns ≤ p.stack) (sym same) h.0, h)
 
 pub room_called : {B V : Type 0} (p : Program) (f : List ℕ) (gs : List (Standing B V)) (rs : List V) (log : List (Event B V)) → p.frame_of f + sum_by p.frame_of (names_active log) ≤ p.stack → Roomy p log
     → Roomy p (Called f gs rs ∷ log)
-room_called p f gs rs log fits h = (subst (λ (ns : List (List ℕ)). sum_by p.frame_of ns ≤ p.stack) (sym (names_called f gs rs log)) fits, h)
+room_called p f gs rs log fits h =
+    let all = sum_by-cons p.frame_of f (names_active log) in
+    let room : sum_by p.frame_of (f ∷ names_active log) ≤ p.stack = omega (arith, fits, all) in
+    (subst (λ (ns : List (List ℕ)). sum_by p.frame_of ns ≤ p.stack) (sym (names_called f gs rs log)) room, h)
 
 pub room_returned : {B V : Type 0} (p : Program) (f : List ℕ) (n : ℕ) (gs : List (Standing B V)) (rs ss : List V) (log : List (Event B V)) → Roomy p log → Roomy p (Returned f n gs rs ss ∷ log)
 room_returned p f n gs rs ss log h =

@@ -3,6 +3,7 @@ use Rattle.std.proofs.Common.{◌≡◌, ℕ, zero, suc, ◌+◌, ◌-◌, ◌%�
 use Rattle.std.specs.Prelude.{Option, Some, None, Contains, slice_get}
 use Rattle.std.specs.List.{sum_by}
 use Rattle.std.proofs.lemmas.Bool.{ltb-false}
+use Rattle.std.proofs.lemmas.List.Sums.{sum_by-cons}
 use Rattle.pw_value.specs.declared.value.Kind.{Kind}
 use Rattle.pw_value.specs.declared.value.Value.{Value}
 use Rattle.pw_value.specs.declared.value.Value.TheVariants.{Undefined, Num, Null, At, Piece}
@@ -144,7 +145,12 @@ module _ (p : Program) (fs : List Located) (none : NoneForLibrary p.frame_of) wh
 
   depth_is : (frames : List Frame) → depth full frames ≡ sum_by p.frame_of (map name_of frames)
   depth_is [] = refl
-  depth_is (f ∷ frames) = ap (λ (n : ℕ). p.frame_of (name_of f) + n) (depth_is frames)
+  depth_is (f ∷ frames) =
+      let deep : depth full (f ∷ frames) ≡ p.frame_of (name_of f) + depth full frames = sum_by-cons (λ (g : Frame). p.frame_of (name_of g)) f frames in
+      let named = sum_by-cons p.frame_of (name_of f) (map name_of frames) in
+      let rest = depth_is frames in
+      let same : depth full (f ∷ frames) ≡ sum_by p.frame_of (name_of f ∷ map name_of frames) = omega (arith, deep, named, rest) in
+      same
 
   refused_or : (b : Bool) (m : Machine) (name : List ℕ) (rest : Step) → Fits m → (b ≡ false → StepFits rest) → StepFits (if b then Stopped run.StackFull (noted (Refused name) m) else rest)
   refused_or true m name rest h more = h
@@ -235,7 +241,11 @@ module _ (p : Program) (fs : List Located) (none : NoneForLibrary p.frame_of) wh
 
   starts_at_fits : (input : List ℕ) (l : Located) (b : Option WebBlock) → p.frame_of start_name ≤ p.stack → StepFits (starts_at_by full input l b)
   starts_at_fits input l None fits = tt
-  starts_at_fits input l (Some b) fits = enters_fit (entered_webs l) (begun_at full input l b) (omega (arith, fits), (omega arith, tt))
+  starts_at_fits input l (Some b) fits =
+      let one = sum_by-cons p.frame_of start_name [] in
+      let room : sum_by p.frame_of (start_name ∷ []) ≤ p.stack = omega (arith, fits, one) in
+      let nothing : sum_by p.frame_of [] ≤ p.stack = omega arith in
+      enters_fit (entered_webs l) (begun_at full input l b) (room, (nothing, tt))
 
   starts_fit : (input : List ℕ) (l : Option Located) → p.frame_of start_name ≤ p.stack → StepFits (starts_by full input l)
   starts_fit input (Some l) fits = starts_at_fits input l (first_block l) fits

@@ -4,6 +4,7 @@ use Rattle.std.specs.List.{AllByRecursion, sum_by}
 use Rattle.std.proofs.Common.{arith, subst, sym, ap, refl, ◌∙◌}
 use Rattle.std.proofs.lemmas.Bool.{eq-eqb, le-leb}
 use Rattle.std.proofs.lemmas.List.Elements.{Contains-append_right}
+use Rattle.std.proofs.lemmas.List.Sums.{sum_by-cons}
 use Rattle.pw_value.specs.Limits.{memory_size, stack_least}
 use Rattle.pw_value.specs.ProgramNames.{start_name}
 use Rattle.pw_value.specs.Objects.{Object as Thing, object_at}
@@ -226,7 +227,10 @@ sum_frames q x each [] are = refl
 sum_frames q x each (g ∷ gs) are =
     let own : q.frame_of (name_of g) ≡ g.function.located.frame = each g.function are.0.there in
     let rest = sum_frames q x each gs are.1 in
-    omega (arith, own, rest)
+    let named = sum_by-cons q.frame_of (name_of g) (map name_of gs) in
+    let all = sum_by-cons (λ (h : Frame). h.function.located.frame) g gs in
+    let same : sum_by q.frame_of (name_of g ∷ map name_of gs) ≡ sum_by (λ (h : Frame). h.function.located.frame) (g ∷ gs) = omega (arith, own, rest, named, all) in
+    same
 
 -- so have their frames
 pub frames_fit : (q : Program) (x : Setting) → FramesOf q x → (gs : List Frame) → AllByRecursion (IsCaller x) gs → (calls : List Call) → calls_behind x gs ≡ calls → sum_by q.frame_of (own_active calls) ≤ q.stack
