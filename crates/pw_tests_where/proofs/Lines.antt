@@ -31,7 +31,7 @@ pub is_shown : (low : ℕ) → AreShown (image low) objects (shown ∷ [])
 is_shown low = record {
   same = IsPermutation-refl (shown ∷ []);
   order = λ k d low' high. absurd (omega (arith, high));
-  stable = STABLE;
+  stable = λ x. refl;
 }
 
 -- ---- the program's one object
