@@ -1,3 +1,3 @@
 pub mod Names
-mod Parts
+pub mod Parts
 pub mod Running

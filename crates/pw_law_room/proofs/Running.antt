@@ -143,7 +143,7 @@ module _ (p : Program) (fs : List Located) (none : NoneForLibrary p.frame_of) wh
       choose StepFits (length args == l.body.params) (and_then (enters_webs full (entered_webs l) (entered l b t m)) (λ n. On (with_parameters 0 args n))) Astray
       (and_fits (enters_webs full (entered_webs l) (entered l b t m)) (λ n. On (with_parameters 0 args n)) (enters_fit (entered_webs l) (entered l b t m) h) (λ n k. parameters_fit 0 args n k)) tt
 
-  depth_is : (frames : List Frame) → depth full frames ≡ sum_by p.frame_of (map name_of frames)
+  pub depth_is : (frames : List Frame) → depth full frames ≡ sum_by p.frame_of (map name_of frames)
   depth_is [] = refl
   depth_is (f ∷ frames) =
       let deep : depth full (f ∷ frames) ≡ p.frame_of (name_of f) + depth full frames = sum_by-cons (λ (g : Frame). p.frame_of (name_of g)) f frames in
