@@ -228,10 +228,10 @@ stored_here files opts input taken store.NoMemory = record {
   found = tt;
 }
 
-pub did_stored : (first : Option Told) (opts : RunOpts) (rest taken : Option (List ℕ)) (error : StoreError) → IfSome first (λ t. IfSome rest (λ input. Did t.files opts input (store_answer error) rest taken taken))
-did_stored None opts rest taken error = tt
-did_stored (Some t) opts None taken error = tt
-did_stored (Some t) opts (Some input) taken error = stored_here t.files opts input taken error
+pub did_stored : (first : Option Told) (opts : RunOpts) (rest taken : Option (List ℕ)) (error : StoreError) (a : Answer) → a ≡ store_answer error → IfSome first (λ t. IfSome rest (λ input. Did t.files opts input a rest taken taken))
+did_stored None opts rest taken error a e = tt
+did_stored (Some t) opts None taken error a e = tt
+did_stored (Some t) opts (Some input) taken error a e = subst (λ (x : Answer). Did t.files opts input x (Some input) taken taken) (sym e) (stored_here t.files opts input taken error)
 
 no_line : (shown : Files) (error : StoreError) (line : Option ℕ) → IsLineDue (told_line (modules_of shown) (store_answer error)) (store_answer error) line
 no_line shown store.Failed line = tt

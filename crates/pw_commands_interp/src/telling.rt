@@ -30,7 +30,7 @@ fn is_among(names: &[String], file: &[u8]) -> bool
 }
 
 /// An answer to a run, told of the file in which the operation stands, by the names of all files.
-#[tactic(auto, using(crate::proofs::ToldLemmas::told_there, crate::proofs::ToldLemmas::told_absent, crate::proofs::ToldLemmas::told_plain, crate::proofs::ToldLemmas::any_plain))]
+#[tactic(auto, using(crate::proofs::ToldLemmas::told_plain, crate::proofs::ToldLemmas::any_plain))]
 fn told_answer(alloc: Global, names: &[String], answer: Answer) -> Result<Answer, AllocError>
     ensures told { (files : Files) → map string_bytes names.now ≡ finite.keys files → IfOk result (λ told. told ≡ told_end files answer) }
     ensures any { IfOk result (λ told. ToldAny answer told) }

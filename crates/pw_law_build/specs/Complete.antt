@@ -1,12 +1,14 @@
 -- When a build is done: the modules are accepted one by one and together, text and memory are large enough, and what is kept
 -- of them is genuine.
 use Rattle.std.specs.Prelude.{◌≡◌, List, [], map, None, Ok}
+use Rattle.pw_io.specs.Files.{Files}
 use Rattle.pw_flow.specs.declared.flow.FlowModule.{FlowModule}
 use Rattle.pw_link_rules.specs.Linking.{Links}
 use Rattle.pw_link.specs.Linking.{size_fault}
 use Rattle.pw_store_modules.specs.Modules.{Source}
 use Rattle.pw_build_objects.specs.Programs.{AreParts, Parts}
 use Rattle.pw_build_files.specs.FromBuild.Builds.{first_phases}
+use Rattle.pw_build_files.specs.Seen.{SeesModules}
 use Rattle.pw_law_shown.specs.Alike.{shown}
 use Rattle.pw_build_opts.specs.declared.opts.Opts.{Opts}
 
@@ -25,3 +27,7 @@ HasRoom flows opts = (parts : Parts) → AreParts flows [] opts parts → size_f
 pub record CanBeBuilt (sources : List Source) (opts : Opts) : Type 0 where
   pub accepted : AreAccepted sources
   pub room : HasRoom accepted.flows opts
+
+-- the same of the modules of a store, as a build sees them
+abbrev pub StoreCanBeBuilt : Files → Opts → Type 0
+StoreCanBeBuilt files opts = (sources : List Source) → SeesModules files sources → CanBeBuilt sources opts

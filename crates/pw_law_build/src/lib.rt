@@ -10,7 +10,7 @@ pub use left::{
     an_edit_that_keeps_flows_makes_nothing,
 };
 pub use refusals::{
-    a_store_is_built_exactly_where_it_can_be, a_store_that_can_be_built_is_built,
-    accepted_modules_are_built, builds_are_complete, first_phases_declare_main,
-    the_command_is_complete, what_is_built_can_be_built,
+    a_seen_store_that_can_be_built_is_built, a_store_is_built_exactly_where_it_can_be,
+    a_store_that_can_be_built_is_built, accepted_modules_are_built, builds_are_complete,
+    first_phases_declare_main, the_command_is_complete, what_is_built_can_be_built,
 };

@@ -20,14 +20,17 @@ ghost use Rattle.pw_top_answer.specs.Outcomes.{InputCount, OutputCount, StoreCou
 ghost use Rattle.pw_build_files.specs.Building.{BuildOutcome, Outcome};
 ghost use Rattle.pw_build_files.specs.Genuine.{KeepsGenuine};
 ghost use Rattle.pw_build_files.specs.Outcomes.{FaultCount, ObeysBuild};
+ghost use Rattle.pw_build_files.specs.Seen.{SeenOutcome};
 ghost use Rattle.pw_build_opts.specs.declared.opts.Opts.{Opts};
 ghost use Rattle.pw_build_files.specs.declared.report.Report.{Report};
 ghost use Rattle.pw_commands.specs.Outcome.{IsFound};
 ghost use Rattle.pw_build_files.specs.Driving.{BuildEffect};
 ghost use Rattle.pw_law_shown.specs.Alike.{DeclaresMain};
-ghost use Rattle.pw_law_build.specs.Complete.{CanBeBuilt};
+ghost use Rattle.pw_law_build.specs.Complete.{CanBeBuilt, StoreCanBeBuilt};
 
-use pw_build_files::{flow_graphs_declare_main, genuine_objects_give_the_full_image};
+use pw_build_files::{
+    flow_graphs_declare_main, genuine_objects_are_seen, genuine_objects_give_the_full_image,
+};
 use pw_build_objects::laws::{
     flow_graphs_have_one_answer, genuine_objects_change_nothing, objects_are_refused_for_room_alone,
 };
@@ -88,24 +91,34 @@ pub fn a_store_is_built_exactly_where_it_can_be()
     genuine_objects_give_the_full_image();
 }
 
-/// Where a store's modules can be built, its kept objects are genuine and its count of faults did not rise, a build answers
-/// its report; or memory ran out.
+/// A build over a store, as it sees the store's files, is refused nothing where the modules that it sees can be built and the
+/// kept objects are genuine.
+pub fn a_seen_store_that_can_be_built_is_built()
+    ensures { (files : Files) (opts : Opts) (fault : BuildFault) →
+        StoreCanBeBuilt files opts → KeepsGenuine files → ¬ SeenOutcome files opts (Err fault) }
+{
+    a_store_that_can_be_built_is_built();
+    genuine_objects_are_seen();
+}
+
+/// Where a store's modules, as a build sees them, can be built, its kept objects are genuine and its count of faults did not
+/// rise, a build answers its report; or memory ran out.
 pub fn builds_are_complete()
     ensures { (opts : Opts) (result : Result Report Unbuilt) (told : Told) (new : Option Told) (before now : ℕ) →
-        CanBeBuilt (modules_of told.files) opts → KeepsGenuine told.files →
+        StoreCanBeBuilt told.files opts → KeepsGenuine told.files →
         ObeysBuild opts result told new → FaultCount before now result → ¬ Rose before now →
         IfErr result (λ unbuilt. unbuilt.fault ≡ build.NoMemory) }
 {
-    a_store_that_can_be_built_is_built();
+    a_seen_store_that_can_be_built_is_built();
 }
 
 /// The same of the command `build`, whose answer is then that it is done, or that memory ran out.
 pub fn the_command_is_complete()
     ensures { (files : Files) (opts : Opts) (input : List ℕ) (reply : Answer) (store store' read read' written written' : ℕ) →
-        CanBeBuilt (modules_of files) opts → KeepsGenuine files → IsFound (BuildEffect files opts input) reply →
+        StoreCanBeBuilt files opts → KeepsGenuine files → IsFound (BuildEffect files opts input) reply →
         StoreCount store store' reply → InputCount read read' reply → OutputCount written written' reply →
         ¬ Rose store store' → ¬ Rose read read' → ¬ Rose written written' →
         (reply ≡ answer.Done) ⊎ (reply ≡ answer.NoMemory) }
 {
-    a_store_that_can_be_built_is_built();
+    a_seen_store_that_can_be_built_is_built();
 }

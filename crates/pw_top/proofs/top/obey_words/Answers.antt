@@ -10,8 +10,8 @@ use Rattle.pw_top.proofs.TellingLemmas.{command_told, memory_is_told, memory_lin
 use Rattle.pw_top.proofs.ToldLemmas.{memory_builds, memory_does, memory_ends, no_memory_is_no_usage}
 use Rattle.pw_top.proofs.top.obey_words.Goals as goal
 
-pub obey-requires : goal.obey-requires
-obey-requires g c = c.commands_are_within.ensures (map string_bytes c.args.words.now) c.in-Ok.command c.in-Ok.ensures
+pub obey-reply-requires : goal.obey-reply-requires
+obey-reply-requires g c = c.commands_are_within.ensures (map string_bytes c.args.words.now) c.in-Ok.command c.in-Ok.ensures
 
 pub returns-in-Ok-clause-usage_is : goal.returns-in-Ok-clause-usage_is
 returns-in-Ok-clause-usage_is g c = rw c.in-Ok.ensures (usage_apart _ _ (usage_for c.in-Ok.command c.obey-reply.result.answer c.tell_builder.result.answer c.tell_builder.ensures.answer c.obey-reply.ensures.usage))
