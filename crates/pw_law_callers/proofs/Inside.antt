@@ -37,8 +37,7 @@ module _ (x : Setting) (above : text_start ≤ x.addresses.data_start) (base : �
   inside f stack [] chain first high = tt
   inside f stack (g ∷ gs) chain first high =
       let low = chain.0.stack.low in
-      let end = chain.1 in
-      (
+      let end = chain.1 in (
         record { low = omega (arith, low, above); aligned = aligned g.function g.stack gs chain.2 first; high = omega (arith, end, high) },
         inside g.function g.stack gs chain.2 first (omega (arith, end, high)),
       )

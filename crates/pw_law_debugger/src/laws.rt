@@ -16,7 +16,8 @@ ghost use Rattle.pw_law_whole.specs.Programs.{IsProgramOf};
 ghost use Rattle.pw_law_debugger.specs.Debugger.{LosesUndefined, TellsTruth};
 
 use pw_build_files::{
-    genuine_objects_are_seen, genuine_objects_give_the_full_build, genuine_objects_give_the_full_image,
+    genuine_objects_are_seen, genuine_objects_give_the_full_build,
+    genuine_objects_give_the_full_image,
 };
 use pw_image::laws::images_and_files_are_one_to_one;
 use pw_law_whole::modules_of_files_have_plain_names;

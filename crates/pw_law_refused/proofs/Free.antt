@@ -216,4 +216,4 @@ module _ (p : Program) (functions : List Located) where
       ∙ (ap (λ (g : Option Library). calls_by free r.result r.name args next g (function_named free r.name)) r.of_module
       ∙ (ap (λ (h : Option Located). calls_by free r.result r.name args next None h) r.found
       ∙ ap (λ (b : Bool). if b then Stopped StackFull (noted (Refused r.function.body.name) next) else begins free r.function (first_block r.function) r.result args (entering free r.function next))
-          (never_exceeds r.function.body.name (next.frame ∷ next.callers)))))
+      (never_exceeds r.function.body.name (next.frame ∷ next.callers)))))
