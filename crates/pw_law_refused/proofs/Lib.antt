@@ -1,4 +1,0 @@
-pub mod Stages
-pub mod Stops
-pub mod Noted
-pub mod Free
