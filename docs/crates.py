@@ -1,8 +1,8 @@
 #!/usr/bin/env python3
-"""Makes what docs/ARCHITECTURE.md tells of the crates: the map, and the counts of what a change touches.
+"""Makes what docs/ tells of the crates: the map of docs/ARCHITECTURE.md, and the counts of what a change touches in docs/CHANGING.md.
 
-    docs/crates.py              writes both into the page, and the map into the rows of its test
-    docs/crates.py --check      says where the page, the rows or crates.txt differ from the crates, with status 1 where they do
+    docs/crates.py              writes both into their pages, and the map into the rows of its test
+    docs/crates.py --check      says where the pages, the rows or crates.txt differ from the crates, with status 1 where they do
     docs/crates.py --touches    prints the counts
     docs/crates.py --twice      prints the names of definitions that stand in two crates or more, with their files, and their count
 
@@ -15,7 +15,7 @@ from pathlib import Path
 
 TOP = Path(__file__).resolve().parent.parent
 CRATES = TOP / "crates"
-PAGE = TOP / "docs" / "ARCHITECTURE.md"
+PAGES = {"crates": TOP / "docs" / "ARCHITECTURE.md", "counts": TOP / "docs" / "CHANGING.md"}
 # The test of the map: from the crates' sentences (stdin) its program makes the tables, as the page has them (stdout).
 TEST = CRATES / "pw_tests_map"
 SENTENCE = re.compile(r".*?\.(?=\s|$)")
@@ -170,20 +170,21 @@ def marks(name):
     return f"<!-- {name}: made by docs/crates.py -->", f"<!-- end of {name} -->"
 
 
-def around(page, name):
-    """What the page has before a table, the table's lines, and what it has behind it."""
+def around(name):
+    """What the page of a table has before it, the table's lines, and what the page has behind it."""
     begin, end = marks(name)
+    page = PAGES[name].read_text()
     if page.count(begin) != 1 or page.count(end) != 1:
-        raise Stop(f"docs/ARCHITECTURE.md: `{begin}` and `{end}` have to stand there once")
+        raise Stop(f"docs/{PAGES[name].name}: `{begin}` and `{end}` have to stand there once")
     before, rest = page.split(begin)
     table, behind = rest.split(end)
     return before + begin, table.strip("\n").splitlines(), end + behind
 
 
-def put(page, name, lines):
-    """The page with a table in place of the one that it has."""
-    before, _, behind = around(page, name)
-    return before + "\n\n" + "\n".join(lines) + "\n\n" + behind
+def put(name, lines):
+    """Writes a table into its page in place of the one that stands there."""
+    before, _, behind = around(name)
+    PAGES[name].write_text(before + "\n\n" + "\n".join(lines) + "\n\n" + behind)
 
 
 def text_of(lines):
@@ -234,20 +235,20 @@ def lines_of(path):
 
 
 def check(parts):
-    """What is wrong with the page and with the rows of the test."""
-    page = PAGE.read_text()
+    """What is wrong with the pages and with the rows of the test."""
     said = unlisted(parts) + unnamed(parts)
-    said += differences("docs/ARCHITECTURE.md", around(page, "crates")[1], tables(parts))
-    said += differences("docs/ARCHITECTURE.md", around(page, "counts")[1], touches(parts))
+    for name, lines in (("crates", tables(parts)), ("counts", touches(parts))):
+        said += differences(f"docs/{PAGES[name].name}", around(name)[1], lines)
     if TEST.is_dir():
         said += differences(f"{TEST.name}/stdin", lines_of(TEST / "stdin"), test_rows(parts))
-        said += differences(f"{TEST.name}/stdout", lines_of(TEST / "stdout"), around(page, "crates")[1])
+        said += differences(f"{TEST.name}/stdout", lines_of(TEST / "stdout"), around("crates")[1])
     return said
 
 
 def write(parts):
     """Writes the tables and the rows of the test."""
-    PAGE.write_text(put(put(PAGE.read_text(), "crates", tables(parts)), "counts", touches(parts)))
+    put("crates", tables(parts))
+    put("counts", touches(parts))
     if TEST.is_dir():
         (TEST / "stdin").write_text(text_of(test_rows(parts)))
         (TEST / "stdout").write_text(text_of(tables(parts)))
