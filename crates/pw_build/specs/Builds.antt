@@ -1,10 +1,10 @@
 -- What the texts of modules, and what was kept of them, come to: one relation, with one answer.
-use Rattle.std.specs.Prelude.{◌≡◌, ℕ, nat_lt, if◌then◌else◌, List, [], ◌∷◌, length, sum_by, map, Option, Some, None, Result, Ok, Err}
+use Rattle.std.specs.Prelude.{◌≡◌, ℕ, nat_lt, if◌then◌else◌, List, [], ◌∷◌, length, map, Option, Some, None, Result, Ok, Err}
 use Rattle.std.specs.FinMap as finite
-use Rattle.pw_value.specs.Limits.{module_limit, texts_limit}
+use Rattle.pw_value.specs.Limits.{module_limit}
 use Rattle.pw_value.specs.declared.fault.LinkFault.{LinkFault}
 use Rattle.pw_value.specs.declared.fault.LinkFault.TheVariants.{TooMany}
-use Rattle.pw_value.specs.declared.fault.What.TheVariants.{Modules, TextBytes}
+use Rattle.pw_value.specs.declared.fault.What.TheVariants.{Modules}
 use Rattle.pw_flow.specs.declared.flow.FlowModule.{FlowModule}
 use Rattle.pw_object.specs.declared.object.Object.{Object}
 use Rattle.pw_law_main.specs.FromPhaseOne.FirstPhase.{Phase, compiled}
@@ -15,17 +15,11 @@ use Rattle.pw_build.specs.declared.fault.BuildFault.{BuildFault}
 use Rattle.pw_build.specs.declared.fault.BuildFault.TheVariants.{Refused, LinkRefused}
 use Rattle.pw_build_opts.specs.declared.opts.Opts.{Opts}
 
--- ---- the limits
+-- ---- the limit
 
--- the bytes of all texts together
-abbrev pub text_bytes : List Source → ℕ
-text_bytes sources = sum_by (λ source. length source.1) sources
-
--- which limit the modules pass first
+-- that there are too many modules
 abbrev pub limit_passed : List Source → Option LinkFault
-limit_passed sources =
-    if nat_lt module_limit (length sources) then Some (TooMany Modules (length sources)) else
-    if nat_lt texts_limit (text_bytes sources) then Some (TooMany TextBytes (text_bytes sources)) else None
+limit_passed sources = if nat_lt module_limit (length sources) then Some (TooMany Modules (length sources)) else None
 
 -- ---- the first phase
 

@@ -1,14 +1,13 @@
 //! The first phases of all modules, in order.
 
-ghost use Rattle.std.specs.Prelude.{◌≡◌, ◌+◌, ◌*◌, ◌≤◌, ◌++◌, ◌∷◌, [], None, Ok, Err, IfErr, IfOk, IfSome, IsErrAnd, OnErr, OnOk, Some, length, map, sum_by};
+ghost use Rattle.std.specs.Prelude.{◌≡◌, ◌++◌, ◌∷◌, [], None, Ok, Err, IfErr, IfOk, IfSome, IsErrAnd, OnErr, OnOk, Some, map};
 ghost use Rattle.std.specs.List.{AllByRecursion};
-ghost use Rattle.pw_value.specs.Limits.{module_limit};
 ghost use Rattle.pw_flow.specs.ValidFlow.{IsValid};
 ghost use Rattle.pw_front_end.specs.Places.{refusal_line};
 ghost use Rattle.pw_build_objects.specs.Programs.{DeclaresMain};
 ghost use Rattle.pw_law_main.specs.FromPhaseOne.FirstPhase.{compiled};
 ghost use Rattle.pw_store_modules.specs.Views.{source};
-ghost use Rattle.pw_build.specs.Builds.{first_phases, flows_of, limit_passed, text_bytes};
+ghost use Rattle.pw_build.specs.Builds.{first_phases, flows_of, limit_passed};
 ghost use Rattle.pw_build.specs.Phases.{FaultsAs, FaultsOfPhase, IsLine, line_by, refused_line};
 
 use crate::fault::{BuildFault, Unbuilt};
@@ -16,33 +15,17 @@ use pw_flow::FlowModule;
 use pw_front_end::{FrontEndFault, Refusal, refusal_line};
 use pw_law_main::{flow_graphs_declare_main, phase_one};
 use pw_store_modules::Module;
-use pw_value::limits::{MODULE_LIMIT, TEXTS_LIMIT};
+use pw_value::limits::MODULE_LIMIT;
 use pw_value::{LinkFault, What};
 use std::alloc::{AllocError, Global};
 
-/// The bytes of the texts of so few modules together.
-fn text_bytes(modules: &[Module]) -> u64
-    requires { length modules.now ≤ module_limit }
-    ensures { result ≡ text_bytes (map source modules.now) }
-{
-    let mut bytes = 0;
-    for which in modules {
-        bytes += which.text.len() as u64;
-    }
-    bytes
-}
-
-/// Which limit the modules pass first.
+/// That there are too many modules, where there are.
 fn limit_passed(modules: &[Module]) -> Option<LinkFault>
     ensures { result ≡ limit_passed (map source modules.now) }
 {
     let count = modules.len() as u64;
     if count > MODULE_LIMIT {
         return Some(LinkFault::TooMany(What::Modules, count));
-    }
-    let bytes = text_bytes(modules);
-    if bytes > TEXTS_LIMIT {
-        return Some(LinkFault::TooMany(What::TextBytes, bytes));
     }
     None
 }
@@ -104,8 +87,8 @@ fn flows_of(alloc: Global, modules: &[Module]) -> Result<Vec<FlowModule>, Unbuil
     Ok(flows)
 }
 
-/// The flow graphs of modules, in their order, where there are not too many modules, their texts are not too long together,
-/// and none is refused; or the first limit that is passed, or the first module that is refused, with the line.
+/// The flow graphs of modules, in their order, where there are not too many modules and none is refused; or that there are too many, or
+/// the first module that is refused, with the line.
 pub fn first_phases(alloc: Global, modules: &[Module]) -> Result<Vec<FlowModule>, Unbuilt>
     ensures flows { IfOk result (λ flows. first_phases (map source modules.now) ≡ Ok flows.items) }
     ensures lawful { IfOk result (λ flows. AllByRecursion IsValid flows.items) }

@@ -7,10 +7,10 @@ use Rattle.std.proofs.lemmas.List.Sums.{sum_by-append}
 use Rattle.pw_io.specs.Files.{Told}
 use Rattle.pw_io.specs.declared.StoreError.{StoreError}
 use Rattle.pw_io.specs.declared.StoreError.TheVariants as store
-use Rattle.pw_value.specs.Limits.{module_limit, texts_limit}
+use Rattle.pw_value.specs.Limits.{module_limit}
 use Rattle.pw_value.specs.declared.fault.LinkFault.{LinkFault}
 use Rattle.pw_value.specs.declared.fault.LinkFault.TheVariants.{TooMany}
-use Rattle.pw_value.specs.declared.fault.What.TheVariants.{Modules, TextBytes}
+use Rattle.pw_value.specs.declared.fault.What.TheVariants.{Modules}
 use Rattle.pw_db_file.specs.Spelling.{IsNewFile}
 use Rattle.pw_object.specs.declared.object.Object.{Object}
 use Rattle.pw_image.specs.declared.image.Image.{Image}
@@ -28,7 +28,7 @@ use Rattle.pw_build_objects.specs.Counting.{CountsUpTo}
 use Rattle.pw_build.specs.declared.fault.BuildFault.{BuildFault}
 use Rattle.pw_build.specs.declared.fault.BuildFault.TheVariants as build
 use Rattle.pw_build.specs.FromPhaseOne.FirstPhase.{Phase, compiled}
-use Rattle.pw_build.specs.Builds.{Builds, BuildsBy, CompletesAs, before_others, first_phases, flows_of, limit_passed, text_bytes, within}
+use Rattle.pw_build.specs.Builds.{Builds, BuildsBy, CompletesAs, before_others, first_phases, flows_of, limit_passed, within}
 use Rattle.pw_build.specs.Phases.{FaultsAs, IsLine}
 use Rattle.pw_build.specs.Stores.{store_fault}
 use Rattle.pw_store_kept.specs.declared.files.ProgramFiles.{ProgramFiles}
@@ -44,13 +44,9 @@ names_by (m ∷ ms) = ap (λ (zs : List (List ℕ)). m.name ∷ zs) (names_by ms
 
 -- ---- too many modules
 
--- what is passed where there are not too many modules
-abbrev bytes_passed : List Source → Option LinkFault
-bytes_passed sources = if nat_lt texts_limit (text_bytes sources) then Some (TooMany TextBytes (text_bytes sources)) else None
-
 passed_by : (sources : List Source) (count : ℕ) (r : Bool) → count ≡ length sources → nat_lt module_limit (length sources) ≡ r → r ≡ true → first_phases sources ≡ Err (build.LinkRefused (TooMany Modules count))
 passed_by sources count true e t h =
-    ap (λ (l : Option LinkFault). within l (flows_of sources)) (ap (λ (b : Bool). cond b (Some (TooMany Modules (length sources))) (bytes_passed sources)) t)
+    ap (λ (l : Option LinkFault). within l (flows_of sources)) (ap (λ (b : Bool). cond b (Some (TooMany Modules (length sources))) None) t)
     ∙ ap (λ (n : ℕ). Err (build.LinkRefused (TooMany Modules n))) (sym e)
 passed_by sources count false e t h = cc
 

@@ -3,11 +3,11 @@ use Rattle.std.proofs.Common.{◌≡◌, ℕ, Bool, true, false, cond, List, [],
 use Rattle.std.specs.Prelude.{IfErr, nat_lt}
 use Rattle.pw_io.specs.declared.StoreError.{StoreError}
 use Rattle.pw_io.specs.declared.StoreError.TheVariants as store
-use Rattle.pw_value.specs.Limits.{module_limit, texts_limit}
+use Rattle.pw_value.specs.Limits.{module_limit}
 use Rattle.pw_value.specs.declared.fault.LinkFault.{LinkFault}
 use Rattle.pw_value.specs.declared.fault.LinkFault.TheVariants as link
 use Rattle.pw_value.specs.declared.fault.What.{What}
-use Rattle.pw_value.specs.declared.fault.What.TheVariants.{Modules, TextBytes}
+use Rattle.pw_value.specs.declared.fault.What.TheVariants.{Modules}
 use Rattle.pw_front_end.specs.Fronts.{HoldsNoWant}
 use Rattle.pw_front_end.specs.declared.refusal.Refusal.{Refusal}
 use Rattle.pw_flow.specs.declared.flow.FlowModule.{FlowModule}
@@ -16,7 +16,7 @@ use Rattle.pw_build.specs.FromPhaseOne.FirstPhase.{Phase, compiled}
 use Rattle.pw_build.specs.declared.fault.BuildFault.{BuildFault}
 use Rattle.pw_build.specs.declared.fault.BuildFault.TheVariants as build
 use Rattle.pw_build.specs.declared.fault.Unbuilt.{Unbuilt}
-use Rattle.pw_build.specs.Builds.{before_others, first_phases, flows_of, limit_passed, text_bytes, within}
+use Rattle.pw_build.specs.Builds.{before_others, first_phases, flows_of, limit_passed, within}
 use Rattle.pw_build.specs.Phases.{FaultsAs}
 use Rattle.pw_build.specs.Stores.{store_fault}
 use Rattle.pw_build_files.specs.Programs.{IsNoWant}
@@ -56,16 +56,12 @@ abbrev IsProperLimit : Option LinkFault → Type 0
 IsProperLimit None = Unit {0}
 IsProperLimit (Some fault) = IsNoWant (build.LinkRefused fault)
 
-texts_proper : (sources : List Source) (b : Bool) → IsProperLimit (cond b (Some (link.TooMany TextBytes (text_bytes sources))) None)
-texts_proper sources true = many_no_want TextBytes (text_bytes sources)
-texts_proper sources false = tt
-
-limit_by : (sources : List Source) (b : Bool) (other : Option LinkFault) → IsProperLimit other → IsProperLimit (cond b (Some (link.TooMany Modules (length sources))) other)
-limit_by sources true other h = many_no_want Modules (length sources)
-limit_by sources false other h = h
+limit_by : (sources : List Source) (b : Bool) → IsProperLimit (cond b (Some (link.TooMany Modules (length sources))) None)
+limit_by sources true = many_no_want Modules (length sources)
+limit_by sources false = tt
 
 limit_proper : (sources : List Source) → IsProperLimit (limit_passed sources)
-limit_proper sources = limit_by sources (nat_lt module_limit (length sources)) _ (texts_proper sources (nat_lt texts_limit (text_bytes sources)))
+limit_proper sources = limit_by sources (nat_lt module_limit (length sources))
 
 within_proper : (limit : Option LinkFault) (flows : Result (List FlowModule) BuildFault) → IsProperLimit limit → IsProper flows → IsProper (within limit flows)
 within_proper None flows a b = b

@@ -1,5 +1,5 @@
 -- What the main theorem says of `hello` where it is built by one call and run by another.
-use Rattle.std.specs.Prelude.{◌≡◌, ◌⊎◌, ℕ, List, Option, None, Some, IfSome, Result, Ok, Err}
+use Rattle.std.specs.Prelude.{◌≡◌, ◌⊎◌, ℕ, Bool, true, false, List, Option, None, Some, IfSome, Result, Ok, Err}
 use Rattle.std.proofs.Common.{⊎_elim, ap, refl, subst, sym, ◌∙◌}
 use Rattle.pw_io.specs.Files.{Files, Keeps, Told}
 use Rattle.pw_front_end.specs.Fronts.{HasTree}
@@ -27,7 +27,8 @@ use Rattle.pw_top.specs.Behind.{DoesAsGo, HoldsShortImage, RunsBehindBuild}
 use Rattle.pw_top.specs.Commands.{BuildsFirst, IsNoSession, OnlyReads}
 use Rattle.pw_top.specs.Does.{DoesAs}
 use Rattle.pw_top.specs.Telling.{AnswersAs, BuildsAs}
-use Rattle.pw_commands_cpp.specs.Telling.{TellsBy, TellsOrFails, source_at, told_of}
+use Rattle.pw_commands_cpp.specs.Telling.{TellsBy, TellsOrFails, TellsWhere, source_at, told_of}
+use Rattle.pw_store_texts.specs.Bytes.{is_crowded}
 use Rattle.pw_store_texts.specs.Headers.{headers_of}
 use Rattle.pw_store_texts.specs.Outputs.{Output}
 use Rattle.pw_hello.specs.Hello.{hello_syntax, hello_text, hello_tree}
@@ -59,8 +60,12 @@ no_refusal : (files : Files) (name : List ℕ) (refusal : Refusal) (source : Opt
 no_refusal files name refusal None h = subst IsDone h tt
 no_refusal files name refusal (Some text) h = no_output name refusal h.0 h.2
 
+no_told : (files : Files) (name : List ℕ) (refusal : Refusal) (crowded : Bool) → TellsWhere crowded files name refusal Done → ⊥
+no_told files name refusal true h = subst IsDone h tt
+no_told files name refusal false h = no_refusal files name refusal (source_at files name) h
+
 done_told : (files : Files) (own : Answer) → TellsOrFails files own Done → own ≡ Done
-done_told files (Refused name refusal) h = absurd (no_refusal files name refusal (source_at files name) h)
+done_told files (Refused name refusal) h = absurd (no_told files name refusal (is_crowded files) h)
 done_told files _ h = sym h
 
 done_is_no_memory : Done ≡ NoMemory → ⊥

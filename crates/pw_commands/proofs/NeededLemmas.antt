@@ -11,7 +11,7 @@ use Rattle.pw_value.specs.Limits.{module_limit}
 use Rattle.pw_value.specs.declared.fault.LinkFault.TheVariants.{TooMany}
 use Rattle.pw_value.specs.declared.fault.What.TheVariants.{Modules}
 use Rattle.pw_store_modules.specs.Few.{IsFewFault}
-use Rattle.pw_store_modules.specs.Modules.{names_of_modules}
+use Rattle.pw_store_texts.specs.Named.{names_of_texts}
 use Rattle.pw_store_modules.specs.declared.few.ModulesFault.{ModulesFault}
 use Rattle.pw_store_modules.specs.declared.few.ModulesFault.TheVariants as modules
 use Rattle.pw_top_answer.specs.Outcomes.{modules_answer}
@@ -116,21 +116,21 @@ within_limit n h = grind (arith, nat_tests, h)
 beyond_limit : (n : ℕ) → module_limit < n → nat_le n module_limit ≡ false
 beyond_limit n h = grind (arith, nat_tests, h)
 
-few_when : (files : Files) (b : Bool) → nat_le (length (names_of_modules files)) module_limit ≡ b
-    → few_names files ≡ cond b (Ok (names_of_modules files)) (Err (LinkRefused (TooMany Modules (length (names_of_modules files)))))
-few_when files b e = ap (λ (c : Bool). cond c (Ok (names_of_modules files)) (Err (LinkRefused (TooMany Modules (length (names_of_modules files)))))) e
+few_when : (files : Files) (b : Bool) → nat_le (length (names_of_texts files)) module_limit ≡ b
+    → few_names files ≡ cond b (Ok (names_of_texts files)) (Err (LinkRefused (TooMany Modules (length (names_of_texts files)))))
+few_when files b e = ap (λ (c : Bool). cond c (Ok (names_of_texts files)) (Err (LinkRefused (TooMany Modules (length (names_of_texts files)))))) e
 
 -- the names that are told are all, and not too many
-pub names_told : (first : Option Told) (names : List (List ℕ)) → IfSome first (λ t. names ≡ names_of_modules t.files) → IfSome first (λ t. length (names_of_modules t.files) ≤ module_limit) → IfSome first (λ t. few_names t.files ≡ Ok names)
+pub names_told : (first : Option Told) (names : List (List ℕ)) → IfSome first (λ t. names ≡ names_of_texts t.files) → IfSome first (λ t. length (names_of_texts t.files) ≤ module_limit) → IfSome first (λ t. few_names t.files ≡ Ok names)
 names_told None names e few = tt
 names_told (Some told) names e few = few_when told.files true (within_limit _ few) ∙ ap Ok (sym e)
 
-stops_by : (files : Files) (fault : ModulesFault) → IsFewFault (length (names_of_modules files)) fault → StopsAs (modules_answer fault) (few_names files)
+stops_by : (files : Files) (fault : ModulesFault) → IsFewFault (length (names_of_texts files)) fault → StopsAs (modules_answer fault) (few_names files)
 stops_by files (modules.TooMany count) h = few_when files false (beyond_limit _ h.1) ∙ ap (λ (n : ℕ). Err (LinkRefused (TooMany Modules n))) (sym h.0)
 stops_by files (modules.Store store.Failed) h = tt
 stops_by files (modules.Store store.NoMemory) h = tt
 
 -- the answer where they are not told
-pub names_stop : (first : Option Told) (fault : ModulesFault) (answer : Answer) → IfSome first (λ t. IsFewFault (length (names_of_modules t.files)) fault) → answer ≡ modules_answer fault → IfSome first (λ t. StopsAs answer (few_names t.files))
+pub names_stop : (first : Option Told) (fault : ModulesFault) (answer : Answer) → IfSome first (λ t. IsFewFault (length (names_of_texts t.files)) fault) → answer ≡ modules_answer fault → IfSome first (λ t. StopsAs answer (few_names t.files))
 names_stop None fault answer few e = tt
 names_stop (Some told) fault answer few e = subst (λ (a : Answer). StopsAs a (few_names told.files)) (sym e) (stops_by told.files fault few)

@@ -12,7 +12,7 @@ use Rattle.pw_object.specs.Reading.{object_file_at}
 use Rattle.pw_image.specs.Image.{IsImageFile}
 use Rattle.pw_link.specs.Linking.{linked, AreLinked, IsRefusal}
 use Rattle.pw_store_modules.specs.FileNames.{image_name, object_ending}
-use Rattle.pw_store_modules.specs.Modules.{names_of_modules}
+use Rattle.pw_store_texts.specs.Named.{names_of_texts}
 use Rattle.pw_top_answer.specs.declared.answer.Answer.{Answer}
 use Rattle.pw_top_answer.specs.declared.answer.Answer.TheVariants.{LinkRefused, StoreFault, NoMemory}
 use Rattle.pw_top_answer.specs.Effects.{Effect, answers_alone, puts_files}
@@ -21,9 +21,9 @@ use Rattle.pw_commands.specs.Needed.{all_needed}
 -- the modules' names, in byte order, where there are not too many
 abbrev pub few_names : Files → Result (List (List ℕ)) Answer
 few_names files =
-    if nat_le (length (names_of_modules files)) module_limit
-    then Ok (names_of_modules files)
-    else Err (LinkRefused (TooMany Modules (length (names_of_modules files))))
+    if nat_le (length (names_of_texts files)) module_limit
+    then Ok (names_of_texts files)
+    else Err (LinkRefused (TooMany Modules (length (names_of_texts files))))
 
 -- what stands in the files of one kind of modules with these names, in their order
 abbrev pub of_names : {V : Type 0} → (List ℕ → Result V ℕ) → List ℕ → Files → Result (List (List ℕ)) Answer → Result (List V) Answer

@@ -1,5 +1,6 @@
--- What is told of a module that a build refuses: what came of its C source, where it has one.
-use Rattle.std.specs.Prelude.{◌≡◌, ◌≢◌, ℕ, if◌then◌else◌, List, Option, Some, None, IsSomeAnd, Result, Ok, Err}
+-- What is told of a module that a build refuses: that the texts of the store are more bytes than there may be, where they are; else what
+-- came of its C source, where it has one.
+use Rattle.std.specs.Prelude.{◌≡◌, ◌≢◌, ℕ, Bool, true, false, if◌then◌else◌, List, Option, Some, None, IsSomeAnd, Result, Ok, Err}
 use Rattle.std.specs.Global.{Vec}
 use Rattle.std.specs.Option.{option_map}
 use Rattle.std.specs.FinMap as finite
@@ -9,11 +10,14 @@ use Rattle.pw_cpp_sources.specs.Sources.{Texts}
 use Rattle.pw_front_end.specs.declared.refusal.Refusal.{Refusal}
 use Rattle.pw_io.specs.Files.{Files, prefix_of}
 use Rattle.pw_store_modules.specs.Modules.{is_module_name, text_read}
+use Rattle.pw_store_texts.specs.Bytes.{is_crowded, text_bytes}
 use Rattle.pw_store_texts.specs.Headers.{headers_of}
 use Rattle.pw_store_texts.specs.Names.{source_name}
 use Rattle.pw_store_texts.specs.Outputs.{ComesBy, Output, output_of}
 use Rattle.pw_top_answer.specs.declared.answer.Answer.{Answer}
-use Rattle.pw_top_answer.specs.declared.answer.Answer.TheVariants.{Refused, RefusedSource, Cpp, StoreFault, NoMemory}
+use Rattle.pw_top_answer.specs.declared.answer.Answer.TheVariants.{Refused, RefusedSource, Cpp, LinkRefused, StoreFault, NoMemory}
+use Rattle.pw_value.specs.declared.fault.LinkFault.TheVariants.{TooMany}
+use Rattle.pw_value.specs.declared.fault.What.TheVariants.{TextBytes}
 use Rattle.pw_commands_cpp.specs.Command.{cpp_fault}
 
 -- the C source of a module, as far as texts are read, where it has one
@@ -29,12 +33,26 @@ abbrev pub TellsBy : Texts → List ℕ → Refusal → Option (List ℕ) → An
 TellsBy headers name refusal None told = told ≡ Refused name refusal
 TellsBy headers name refusal (Some text) told = (output : Output) × ComesBy headers name text output × (told ≡ told_of name refusal output)
 
+-- the bytes of the texts of a store, that there are too many
+abbrev pub too_many_bytes : Files → Answer
+too_many_bytes files = LinkRefused (TooMany TextBytes (text_bytes files))
+
+-- of a refused module, where the texts are more bytes than there may be, and where they are not
+abbrev pub TellsWhere : Bool → Files → List ℕ → Refusal → Answer → Type 0
+TellsWhere true files name refusal told = told ≡ too_many_bytes files
+TellsWhere false files name refusal told = TellsBy (headers_of files) name refusal (source_at files name) told
+
 -- what is told over a store's files in the place of an answer
 abbrev pub TellsAnswer : Files → Answer → Answer → Type 0
-TellsAnswer files (Refused name refusal) told = TellsBy (headers_of files) name refusal (source_at files name) told
+TellsAnswer files (Refused name refusal) told = TellsWhere (is_crowded files) files name refusal told
 TellsAnswer files answer told = told ≡ answer
 
--- a fault of the store, and want of memory, may come in the place of a refusal
+-- A fault of the store, and want of memory, may come in the place of a refusal. First where the bytes of the texts are not looked at.
+abbrev pub TellsCompiled : Files → List ℕ → Refusal → Answer → Type 0
+TellsCompiled files name refusal StoreFault = Unit {0}
+TellsCompiled files name refusal NoMemory = Unit {0}
+TellsCompiled files name refusal told = TellsBy (headers_of files) name refusal (source_at files name) told
+
 abbrev pub TellsRefusal : Files → List ℕ → Refusal → Answer → Type 0
 TellsRefusal files name refusal StoreFault = Unit {0}
 TellsRefusal files name refusal NoMemory = Unit {0}
@@ -54,6 +72,7 @@ abbrev pub IsToldOf : List ℕ → Refusal → Answer → Type 0
 IsToldOf name refusal (Refused other found) = (other ≡ name) × (found ≡ refusal)
 IsToldOf name refusal (RefusedSource other found) = (other ≡ name) × (found ≡ refusal)
 IsToldOf name refusal (Cpp fault) = fault.kind ≢ kind.NoMemory
+IsToldOf name refusal (LinkRefused fault) = (bytes : ℕ) × (fault ≡ TooMany TextBytes bytes)
 IsToldOf name refusal StoreFault = Unit {0}
 IsToldOf name refusal NoMemory = Unit {0}
 IsToldOf name refusal told = ⊥

@@ -1,7 +1,7 @@
 //! What is told of a module that a build refuses.
 
 ghost use Rattle.std.specs.Prelude.{◌≡◌, ◌≢◌, ℕ, IfErr, IfOk, IfSome, Option, true};
-ghost use Rattle.pw_commands_cpp.specs.Telling.{ComesOf, IsToldAnswer, IsToldOf, TellsOrFails, TellsRefusal};
+ghost use Rattle.pw_commands_cpp.specs.Telling.{ComesOf, IsToldAnswer, IsToldOf, TellsCompiled, TellsOrFails, TellsRefusal};
 ghost use Rattle.pw_cpp_directives.specs.declared.fault.CppKind.TheVariants as kind;
 ghost use Rattle.pw_io.specs.Faults.{HasStoreCause};
 ghost use Rattle.pw_io.specs.Files.{Keeps};
@@ -12,9 +12,10 @@ use pw_cpp::CppFault;
 use pw_front_end::Refusal;
 use pw_io::{Store, StoreError};
 use pw_store_modules::{is_module_name, module_file};
-use pw_store_texts::{SOURCE_ENDING, TEXT_READ, preprocess_source, read_headers};
+use pw_store_texts::{SOURCE_ENDING, TEXT_READ, preprocess_source, read_headers, text_bytes};
 use pw_top_answer::{Answer, Reply};
-use pw_value::Name;
+use pw_value::limits::TEXTS_LIMIT;
+use pw_value::{LinkFault, Name, What};
 use std::alloc::Global;
 
 /// What the preprocessor makes of a module's C source, where it has one.
@@ -38,16 +39,17 @@ pub fn source_output<S: Store>(
     Ok(Some(preprocess_source(alloc, &mut headers, name, text)?))
 }
 
-/// What is told of a refused module: of one that has a C source the preprocessor's fault, or that its output is refused.
+/// What is told of a refused module, where the bytes of the texts are not looked at: of one that has a C source the preprocessor's fault, or
+/// that its output is refused.
 #[tactic(auto, using(crate::proofs::TellingLemmas::tells_unnamed, crate::proofs::TellingLemmas::tells_none, crate::proofs::TellingLemmas::tells_output, crate::proofs::TellingLemmas::tells_fault))]
-fn tell_refused<S: Store>(
+fn tell_compiled<S: Store>(
     alloc: Global,
     store: &mut S,
     name: Name,
     refusal: Refusal,
     line: Option<usize>,
 ) -> Reply
-    ensures told { IfSome (S.told store.old) (λ told. TellsRefusal told.files name refusal result.answer) }
+    ensures told { IfSome (S.told store.old) (λ told. TellsCompiled told.files name refusal result.answer) }
     ensures line { (due : Option ℕ) → line ≡ due → IsLineDue due result.answer result.line }
     ensures same { Keeps (S.told store.old) (S.told store.new) }
     ensures answer { IsToldOf name refusal result.answer }
@@ -79,8 +81,42 @@ fn tell_refused<S: Store>(
     }
 }
 
-/// What is told of a command's reply over the files of a store, which stay as they are: a refused module that has a C source is told by
-/// the preprocessor's fault, or as one whose output is refused. Every other answer stays.
+/// What is told of a refused module: that the texts of the store are more bytes than there may be, where they are.
+#[tactic(auto, using(crate::proofs::TellingLemmas::tells_many, crate::proofs::TellingLemmas::tells_few))]
+fn tell_refused<S: Store>(
+    alloc: Global,
+    store: &mut S,
+    name: Name,
+    refusal: Refusal,
+    line: Option<usize>,
+) -> Reply
+    ensures told { IfSome (S.told store.old) (λ told. TellsRefusal told.files name refusal result.answer) }
+    ensures line { (due : Option ℕ) → line ≡ due → IsLineDue due result.answer result.line }
+    ensures same { Keeps (S.told store.old) (S.told store.new) }
+    ensures answer { IsToldOf name refusal result.answer }
+    ensures count { StoreCount (S.faults store.old) (S.faults store.new) result.answer }
+{
+    match text_bytes(alloc, store) {
+        Ok(bytes) => {
+            if bytes > TEXTS_LIMIT {
+                Reply {
+                    answer: Answer::LinkRefused(LinkFault::TooMany(What::TextBytes, bytes)),
+                    line: None,
+                }
+            } else {
+                tell_compiled(alloc, store, name, refusal, line)
+            }
+        }
+        Err(error) => Reply {
+            answer: Answer::from(error),
+            line: None,
+        },
+    }
+}
+
+/// What is told of a command's reply over the files of a store, which stay as they are: a refused module by that the texts are more bytes
+/// than there may be, where they are; else one that has a C source by the preprocessor's fault, or as one whose output is refused. Every
+/// other answer stays.
 pub fn tell_source<S: Store>(alloc: Global, store: &mut S, reply: Reply) -> Reply
     ensures told { IfSome (S.told store.old) (λ told. TellsOrFails told.files reply.answer result.answer) }
     ensures line { (due : Option ℕ) → IsLineDue due reply.answer reply.line → IsLineDue due result.answer result.line }

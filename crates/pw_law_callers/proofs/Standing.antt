@@ -89,7 +89,7 @@ stand x fr s c core shows base above same known located stack link g (h ∷ hs) 
     (stand x fr s c core shows base above same known located g.stack (return_address x.addresses h h.left) h hs callers.1 chain.2 links.1 others.1 first refl)
 
 -- the calls that the machine has noted, as functions
-active_behind : (x : Setting) → IsLinked x → (callers : List Frame) → AllByRecursion (IsCaller x) callers → flat_map (active_as (map_in x)) (calls_behind x callers) ≡ map active callers
+pub active_behind : (x : Setting) → IsLinked x → (callers : List Frame) → AllByRecursion (IsCaller x) callers → flat_map (active_as (map_in x)) (calls_behind x callers) ≡ map active callers
 active_behind x l [] h = refl
 active_behind x l (g ∷ gs) h =
     ap (λ (list : List Active). list ++ flat_map (active_as (map_in x)) (calls_behind x gs)) (found_as (map_in x) (call_from x g gs) g.function.located (l.found g.function h.0.there))

@@ -1,8 +1,8 @@
 //! The laws. A function here does nothing: its clause is a fact about all values.
 
-ghost use Rattle.std.specs.Prelude.{◌≡◌, ◌≤◌, ℕ, List, Some, ◌∷◌, map, Contains};
-ghost use Rattle.std.specs.List.{flat_map};
-ghost use Rattle.pw_value.specs.Limits.{text_start};
+ghost use Rattle.std.specs.Prelude.{◌≡◌, ◌≤◌, ◌+◌, ◌%◌, ℕ, List, Some, ◌∷◌, map, Contains};
+ghost use Rattle.std.specs.List.{AllByRecursion, flat_map, sum_by};
+ghost use Rattle.pw_value.specs.Limits.{memory_size, text_start};
 ghost use Rattle.pw_value.specs.ProgramNames.{start_name};
 ghost use Rattle.pw_db_sound.specs.CallGraphs.{Graph, Calls};
 ghost use Rattle.pw_alloc.specs.ValidPlaces.{IsLocated};
@@ -14,11 +14,11 @@ ghost use Rattle.pw_run_languages.specs.MachineRun.{active_as, told_active};
 ghost use Rattle.pw_debug.specs.Holding.{frame_at};
 ghost use Rattle.pw_debug.specs.Walk.{Seen, start_of};
 ghost use Rattle.pw_debug_frames.specs.Frames.{frame_info};
-ghost use Rattle.pw_law_walk.specs.Chains.{Callers};
+ghost use Rattle.pw_law_walk.specs.Chains.{Callers, StandsInMemory};
 ghost use Rattle.pw_law_link_run.specs.Steps.{Setting, map_in};
 ghost use Rattle.pw_law_link_run.specs.Simulating.{IsCaller, IsLinked, Simulates, calls_behind};
-ghost use Rattle.pw_law_link_run.specs.Leveled.{AreFramed, IsInLevel};
-ghost use Rattle.pw_law_entered.specs.Entered.{HasEntered, first_active};
+ghost use Rattle.pw_law_link_run.specs.Leveled.{AreFramed, ChainFrom, IsInLevel};
+ghost use Rattle.pw_law_entered.specs.Entered.{HasEntered, first_active, first_call};
 ghost use Rattle.pw_law_callers.specs.Others.{OthersDiffer};
 
 /// Where a function has just been entered, and the machine shows that, the functions that are active stand one behind another
@@ -37,4 +37,13 @@ pub fn active_functions_are_callers()
 /// is `$start`.
 pub fn only_the_first_is_start()
     ensures { (g : Graph) (log : List (Event ℕ ℕ)) → ((caller : List ℕ) → ¬ Calls g caller start_name) → FollowsCalls g log → OthersDiffer (told_active log) }
+{}
+
+/// Where the stack pointers of the functions that are active are in level, from the beginning of the stack on, and their frames
+/// together end in the memory, the frame of each stands in it.
+pub fn active_frames_stand()
+    ensures { (x : Setting) (f first : LineFn) (stack : ℕ) (callers : List Frame) → IsLinked x → text_start ≤ x.addresses.data_start → x.addresses.base % 8 ≡ 0 →
+        ((g : LineFn) → Contains x.program.functions g → g.located.frame % 8 ≡ 0) → AllByRecursion (IsCaller x) callers → ChainFrom x stack callers →
+        first_call f stack callers ≡ (first, x.addresses.base) → x.addresses.base + sum_by (λ g. g.function.located.frame) callers ≤ memory_size →
+        AllByRecursion StandsInMemory (flat_map (active_as (map_in x)) (calls_behind x callers)) }
 {}

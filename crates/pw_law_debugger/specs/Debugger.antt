@@ -1,4 +1,4 @@
--- What it says that the debugger tells the truth of a program.
+-- What it says that the debugger tells the truth of a program, and that it loses no walk over its frames.
 use Rattle.std.specs.Prelude.{ℕ, List, Ok}
 use Rattle.pw_value.specs.Objects.{Object as Thing}
 use Rattle.pw_io.specs.Files.{Files}
@@ -16,13 +16,22 @@ use Rattle.pw_law_truth.specs.Truth.{ComesToCall, TellTrue}
 
 -- The lines are true of the program's k-th call over the input, if the program is defined on it and comes to that call on its
 -- stack, each call taking the stack that its function takes in the image.
-pub record TellsTruth (files : Files) (opts : RunOpts) (k : ℕ) (input lines : List ℕ) (p : Program) : Type 0 where
-  -- the image of the full build of the files' modules
+pub record TellsTruth (shown : Files) (opts : RunOpts) (k : ℕ) (input lines : List ℕ) (p : Program) : Type 0 where
+  -- the image of the full build of the modules that a build sees
   pub bytes : List ℕ
-  pub builds : BuildsImage (module_map files) opts.build (Ok bytes)
+  pub builds : BuildsImage (module_map shown) opts.build (Ok bytes)
   pub contents : Contents Image
   pub file : IsImageFile bytes contents
   -- the objects of which it was linked
   pub objects : List Object
   pub tells : IsDefined (source_runs p (frame_in contents.value) opts.build.stack input) → (f : List ℕ) (things : List Thing) →
       ComesToCall p contents.value opts.build.stack input k f things → TellTrue p contents.value objects k lines f things
+
+-- A walk is lost only where the program is not defined on the input.
+pub record LosesUndefined (shown : Files) (opts : RunOpts) (input : List ℕ) (p : Program) : Type 0 where
+  -- the image of the full build of the modules that a build sees
+  pub bytes : List ℕ
+  pub builds : BuildsImage (module_map shown) opts.build (Ok bytes)
+  pub contents : Contents Image
+  pub file : IsImageFile bytes contents
+  pub undefined : ¬ IsDefined (source_runs p (frame_in contents.value) opts.build.stack input)

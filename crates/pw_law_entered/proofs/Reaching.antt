@@ -23,7 +23,7 @@ use Rattle.pw_law_link_run.specs.Meeting.{RunsTo, EndsSo}
 use Rattle.pw_law_link_run.specs.Leveled.{AreFramed, IsInLevel, IsMet, StepLevel}
 use Rattle.pw_law_link_run.proofs.Items.{behind_all}
 use Rattle.pw_law_link_run.proofs.Running.{last_step}
-use Rattle.pw_law_entered.specs.Entered.{first_active, EntersAs, HasPassed, EntersAt}
+use Rattle.pw_law_entered.specs.Entered.{first_call, EntersAs, HasPassed, EntersAt}
 use Rattle.pw_law_entered.proofs.Stepping.{Adds, step_adds}
 
 -- ---- calls of the machine
@@ -133,7 +133,7 @@ pub record IsKth (x : Setting) (scratch : ℕ → (ℕ → ℕ) → ℕ → ℕ)
   pub enters : EntersAs x k state
 
 step_of : (x : Setting) → IsLinked x → (fr : AreFramed x) (scratch : ℕ → (ℕ → ℕ) → ℕ → ℕ) (m : Machine) → IsInLevel x fr m
-    → Adds x (source_calls m.trace) (first_active m.frame.function m.callers) (step x.program x.addresses scratch m)
+    → Adds x (source_calls m.trace) (first_call m.frame.function m.frame.stack m.callers) (step x.program x.addresses scratch m)
 step_of x l fr scratch m h =
     step_adds x scratch m m.frame.left (behind_all (IsFit x) h.before m.frame.left (subst (λ items. AllByRecursion (IsFit x) items) h.parts (l.fits m.frame.function h.there)))
 
@@ -162,7 +162,7 @@ kth_by x scratch s k n m t some is (inr new) le before = by (cases_lt (source_ca
         let here : source_calls m.trace + 1 ≡ k = omega (arith, count, le, high) in
         record { at = suc n; within = omega arith; state = t; is = is; enters = subst (λ (i : ℕ). EntersAs x i t) here new }
 
-kth_on : (x : Setting) (scratch : ℕ → (ℕ → ℕ) → ℕ → ℕ) (s : Step) (k n : ℕ) (m : Machine) (f : LineFn) (u : Step) → 1 ≤ k → steps x.program x.addresses scratch (suc n) s ≡ u
+kth_on : (x : Setting) (scratch : ℕ → (ℕ → ℕ) → ℕ → ℕ) (s : Step) (k n : ℕ) (m : Machine) (f : LineFn × ℕ) (u : Step) → 1 ≤ k → steps x.program x.addresses scratch (suc n) s ≡ u
     → Adds x (source_calls m.trace) f u → k ≤ calls_noted u → (k ≤ source_calls m.trace → IsKth x scratch s k n) → IsKth x scratch s k (suc n)
 kth_on x scratch s k n m f (On t) some is adds le before = kth_by x scratch s k n m t some is adds.1 le before
 kth_on x scratch s k n m f (Stopped end t) some is adds le before = kth_later x scratch s k n (before (omega (arith, adds, le)))
@@ -172,7 +172,7 @@ kth_more : (x : Setting) → IsLinked x → (fr : AreFramed x) (scratch : ℕ �
     → k ≤ calls_noted (steps x.program x.addresses scratch (suc n) s) → (k ≤ calls_noted t → IsKth x scratch s k n) → IsKth x scratch s k (suc n)
 kth_more x l fr scratch s k n (On m) some is level le before =
     let next = last_step x scratch n s ∙ ap (λ (t : Step). and_then t (step x.program x.addresses scratch)) is in
-    kth_on x scratch s k n m (first_active m.frame.function m.callers) (step x.program x.addresses scratch m) some next (step_of x l fr scratch m level)
+    kth_on x scratch s k n m (first_call m.frame.function m.frame.stack m.callers) (step x.program x.addresses scratch m) some next (step_of x l fr scratch m level)
     (subst (λ (t : Step). k ≤ calls_noted t) next le) before
 kth_more x l fr scratch s k n (Stopped end m) some is level le before =
     let next = last_step x scratch n s ∙ ap (λ (t : Step). and_then t (step x.program x.addresses scratch)) is in
@@ -189,25 +189,25 @@ kth x l fr scratch s levels none k zero some le = absurd (omega (arith, none, so
 kth x l fr scratch s levels none k (suc n) some le =
     kth_more x l fr scratch s k n (steps x.program x.addresses scratch n s) some refl (levels n) le (λ low. kth x l fr scratch s levels none k n some low)
 
--- ---- the first function
+-- ---- the first call
 
-abbrev pub StepFirst : LineFn → Step → Type 0
-StepFirst f (On m) = first_active m.frame.function m.callers ≡ f
+abbrev pub StepFirst : LineFn × ℕ → Step → Type 0
+StepFirst f (On m) = first_call m.frame.function m.frame.stack m.callers ≡ f
 StepFirst f _ = Unit {0}
 
-first_by : (x : Setting) (k : ℕ) (f : LineFn) (s : Step) → Adds x k f s → StepFirst f s
+first_by : (x : Setting) (k : ℕ) (f : LineFn × ℕ) (s : Step) → Adds x k f s → StepFirst f s
 first_by x k f (On t) adds = adds.0
 first_by x k f (Stopped end t) adds = tt
 first_by x k f Astray adds = tt
 
-first_more : (x : Setting) → IsLinked x → (fr : AreFramed x) (scratch : ℕ → (ℕ → ℕ) → ℕ → ℕ) (f : LineFn) (s : Step) → StepLevel x fr s → StepFirst f s → StepFirst f (and_then s (step x.program x.addresses scratch))
+first_more : (x : Setting) → IsLinked x → (fr : AreFramed x) (scratch : ℕ → (ℕ → ℕ) → ℕ → ℕ) (f : LineFn × ℕ) (s : Step) → StepLevel x fr s → StepFirst f s → StepFirst f (and_then s (step x.program x.addresses scratch))
 first_more x l fr scratch f (On m) level first =
-    subst (λ (g : LineFn). StepFirst g (step x.program x.addresses scratch m)) first
-    (first_by x (source_calls m.trace) (first_active m.frame.function m.callers) (step x.program x.addresses scratch m) (step_of x l fr scratch m level))
+    subst (λ (g : LineFn × ℕ). StepFirst g (step x.program x.addresses scratch m)) first
+    (first_by x (source_calls m.trace) (first_call m.frame.function m.frame.stack m.callers) (step x.program x.addresses scratch m) (step_of x l fr scratch m level))
 first_more x l fr scratch f (Stopped end m) level first = tt
 first_more x l fr scratch f Astray level first = tt
 
-firsts : (x : Setting) → IsLinked x → (fr : AreFramed x) (scratch : ℕ → (ℕ → ℕ) → ℕ → ℕ) (f : LineFn) (s : Step) → ((i : ℕ) → StepLevel x fr (steps x.program x.addresses scratch i s)) → StepFirst f s
+firsts : (x : Setting) → IsLinked x → (fr : AreFramed x) (scratch : ℕ → (ℕ → ℕ) → ℕ → ℕ) (f : LineFn × ℕ) (s : Step) → ((i : ℕ) → StepLevel x fr (steps x.program x.addresses scratch i s)) → StepFirst f s
     → (n : ℕ) → StepFirst f (steps x.program x.addresses scratch n s)
 unfolding steps
 firsts x l fr scratch f s levels first zero = first
@@ -222,7 +222,7 @@ start_calls : (p : LineProgram) (w : Addresses) (input : List ℕ) (o : Option L
 start_calls p w input None e = rw e refl
 start_calls p w input (Some f) e = rw e (let none : one_if (is_of_source start_name) ≡ 0 = ap one_if start_none in omega (arith, none))
 
-start_first : (p : LineProgram) (w : Addresses) (input : List ℕ) (f : LineFn) → function_named p start_name ≡ Some f → StepFirst f (start p w input)
+start_first : (p : LineProgram) (w : Addresses) (input : List ℕ) (f : LineFn) → function_named p start_name ≡ Some f → StepFirst (f, w.base) (start p w input)
 start_first p w input f e = rw e refl
 
 -- ---- the machine there
@@ -287,7 +287,7 @@ enters_at counts one state x fr scratch input entries k m n s l are met call pas
       state = h.state;
       is = h.is;
       enters = h.enters;
-      first = λ f named. subst (λ (t : Step). StepFirst f t) h.is (firsts x l fr scratch f first levels (start_first x.program x.addresses input f named) h.at);
+      first = λ f named. subst (λ (t : Step). StepFirst (f, x.addresses.base) t) h.is (firsts x l fr scratch (f, x.addresses.base) first levels (start_first x.program x.addresses input f named) h.at);
       level = there.level;
       step = r.steps;
       simulates = r.simulates;

@@ -16,6 +16,11 @@ abbrev pub first_active : LineFn → List Frame → LineFn
 first_active f [] = f
 first_active f (g ∷ gs) = first_active g.function gs
 
+-- of the calls that are active the one that was made first: its function, and the stack pointer at it
+abbrev pub first_call : LineFn → ℕ → List Frame → LineFn × ℕ
+first_call f stack [] = (f, stack)
+first_call f stack (g ∷ gs) = first_call g.function g.stack gs
+
 -- A function has just been entered: its caller goes on behind the call, whose return address stood in register 2, and the
 -- next word is not passed over.
 pub record HasEntered (x : Setting) (t : Machine) : Type 0 where
@@ -44,7 +49,7 @@ pub record EntersAt (x : Setting) (a : AreFramed x) (scratch : ℕ → (ℕ → 
   pub state : Machine
   pub is : steps x.program x.addresses scratch at (start x.program x.addresses input) ≡ On state
   pub enters : EntersAs x k state
-  pub first : (f : LineFn) → function_named x.program start_name ≡ Some f → first_active state.frame.function state.callers ≡ f
+  pub first : (f : LineFn) → function_named x.program start_name ≡ Some f → first_call state.frame.function state.frame.stack state.callers ≡ (f, x.addresses.base)
   pub level : IsInLevel x a state
   pub step : ℕ
   pub simulates : Simulates x state step

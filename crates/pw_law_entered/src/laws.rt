@@ -15,7 +15,7 @@ use pw_where::laws::a_run_has_one_call;
 
 /// At the k-th call that the debugger counts the machine shows the state of the lines in which the function has just been
 /// entered, wherever the run of lines is met by the machine and has passed that step: the return address of the call stands in
-/// register 2, and the first of the functions that are active is `$start`.
+/// register 2, and the first of the calls that are active is that of `$start`, at the beginning of the stack.
 pub fn calls_are_entered()
     ensures { (x : Setting) (fr : AreFramed x) (scratch : ℕ → (ℕ → ℕ) → ℕ → ℕ) (input : List ℕ) (entries : List ℕ) (k m n : ℕ) (s : State) → IsLinked x → AreEntriesOf entries (map_in x) →
         ((i : ℕ) → IsMet x fr (steps x.program x.addresses scratch i (start x.program x.addresses input))) → IsCall entries x.start k m s →

@@ -1,5 +1,6 @@
--- In the run of a defined program's image each call is one of the program's graph.
-use Rattle.std.specs.Prelude.{ℕ, List, [], ◌∷◌}
+-- What is noted in the run of a defined program's image: each call is one of the program's graph, and the functions that are
+-- active have room on the stack.
+use Rattle.std.specs.Prelude.{ℕ, List, [], ◌∷◌, map}
 use Rattle.std.proofs.Common.{arith, subst}
 use Rattle.pw_value.specs.declared.value.Value.{Value}
 use Rattle.pw_value.specs.declared.value.Byte.{Byte}
@@ -20,12 +21,12 @@ use Rattle.pw_run_languages.specs.Traces.{Event, EventAlike, Called, Refused, Re
 use Rattle.pw_run_languages.specs.Calls.{FollowsCalls}
 use Rattle.pw_run_languages.specs.Meeting.{MetWith}
 use Rattle.pw_run_languages.specs.Late.{RefinesLately}
-use Rattle.pw_run_languages.specs.Programs.{Program}
+use Rattle.pw_run_languages.specs.Programs.{NoneForLibrary, Program}
 use Rattle.pw_run_languages.specs.FlowRun as flow
 use Rattle.pw_run_languages.specs.FlowRun.{flow_run}
-use Rattle.pw_run_languages.specs.LawfulPrograms.{graph_of}
+use Rattle.pw_run_languages.specs.LawfulPrograms.{StartFits, graph_of}
 use Rattle.pw_run_languages.specs.PlacedRun.{placed_run}
-use Rattle.pw_run_languages.specs.Direction.{MomentAlike, web_run, with_functions}
+use Rattle.pw_run_languages.specs.Direction.{MomentAlike, directed_functions, unplaced, web_run, with_functions}
 use Rattle.pw_run_languages.specs.Standing.{EventInWords}
 use Rattle.pw_run_languages.specs.LineRun.{line_run}
 use Rattle.pw_run_languages.specs.MachineRun.{Map, traced_run}
@@ -39,6 +40,11 @@ use Rattle.pw_run_languages.proofs.Traffic.{follows_alike}
 use Rattle.pw_law_source.specs.Source.{end_of, shown, source_runs, source_stages, staged}
 use Rattle.pw_law_source.specs.Lowering.{MomentKept}
 use Rattle.pw_law_layers.specs.Whole.{LayersKeep, image_of}
+use Rattle.pw_law_room.specs.Room.{HadRoom}
+use Rattle.pw_law_room.proofs.Names.{room_alike, room_of_refused, room_to_refused}
+
+abbrev pub ActiveCallsHaveRoom : Type 0
+ActiveCallsHaveRoom = (p : Program) (functions : List Located) (input : List ℕ) → StartFits p → NoneForLibrary p.frame_of → (n : ℕ) → Notes (HadRoom p) (placed_run (with_functions p functions) input n)
 
 -- ---- from run to run
 
@@ -104,19 +110,25 @@ to_refused g (Stored v ∷ l) h = h
 closed : (g : Graph) → IsClosed (FollowsCalls g)
 closed g = record { earlier = earlier g; of_refused = of_refused g; to_refused = to_refused g }
 
-follows_down : (p : Program) (named : List ℕ → ℕ) (g : Graph) (s : Stage Moment) (webs places : ℕ → Stage (Event Byte Value)) (lines machine : ℕ → Stage (Event ℕ ℕ))
-    → Refines (EventAlike Same Same) webs places → Refines (EventInWords p named) places lines → RefinesLately Same lines machine
-    → MetWith (FollowsCalls g) s webs → MetWith (FollowsCalls g) s machine
-follows_down p named g s webs places lines machine a b c m =
-    carried_late Same (FollowsCalls g) (FollowsCalls g) (λ l k q. follows_alike g l k (same_kinds Same same_kind l k q)) (earlier g) s lines machine c
-    (carried (EventInWords p named) (FollowsCalls g) (FollowsCalls g) (λ l k q. follows_alike g l k (same_kinds (EventInWords p named) (words_kind p named) l k q)) s places lines b
-    (carried (EventAlike Same Same) (FollowsCalls g) (FollowsCalls g) (λ l k q. follows_alike g l k (same_kinds (EventAlike Same Same) places_kind l k q)) s webs places a m))
+abbrev AreCarried : {B C V W : Type 0} → (List (Event B V) → Type 0) → (List (Event C W) → Type 0) → Type 0
+AreCarried {B} {C} {V} {W} P Q = (l : List (Event B V)) (k : List (Event C W)) → AreAlike SameKind l k → P l → Q k
 
-pub calls_follow : (p : source.Program) (q : Program) (d : List (List ℕ × Directives)) (functions : List Located) (objects : List Object) (input : List ℕ) → LayersKeep p q d functions objects input
-    → IsDefined (source_runs p (frame_in (image_of objects q.stack)) q.stack input) → (n : ℕ) → Notes (FollowsCalls (graph_of q)) (image_run q functions (image_of objects q.stack) input n)
-calls_follow p q d functions objects input l defined n =
+-- what holds of like logs, from the run under directives to the machine's
+noted_down : (P : List (Event Byte Value) → Type 0) (Q : List (Event ℕ ℕ) → Type 0) → AreCarried P P → AreCarried P Q → AreCarried Q Q → IsClosed Q
+    → (p : Program) (named : List ℕ → ℕ) (s : Stage Moment) (webs places : ℕ → Stage (Event Byte Value)) (lines machine : ℕ → Stage (Event ℕ ℕ))
+    → Refines (EventAlike Same Same) webs places → Refines (EventInWords p named) places lines → RefinesLately Same lines machine
+    → MetWith P s webs → MetWith Q s machine
+noted_down P Q first second third closed p named s webs places lines machine a b c m =
+    carried_late Same Q Q (λ l k q. third l k (same_kinds Same same_kind l k q)) closed.earlier s lines machine c
+    (carried (EventInWords p named) P Q (λ l k q. second l k (same_kinds (EventInWords p named) (words_kind p named) l k q)) s places lines b
+    (carried (EventAlike Same Same) P P (λ l k q. first l k (same_kinds (EventAlike Same Same) places_kind l k q)) s webs places a m))
+
+-- so what each run under directives notes, the machine notes where the program is defined
+pub machine_notes : (P : List (Event Byte Value) → Type 0) (Q : List (Event ℕ ℕ) → Type 0) → AreCarried P P → AreCarried P Q → AreCarried Q Q → IsClosed Q
+    → (p : source.Program) (q : Program) (d : List (List ℕ × Directives)) (functions : List Located) (objects : List Object) (input : List ℕ) → LayersKeep p q d functions objects input
+    → ((n : ℕ) → Notes P (web_run q d input n)) → IsDefined (source_runs p (frame_in (image_of objects q.stack)) q.stack input) → (n : ℕ) → Notes Q (image_run q functions (image_of objects q.stack) input n)
+machine_notes P Q first second third closed p q d functions objects input l all defined n =
     let v = image_of objects q.stack in
-    let g = graph_of q in
     let source = source_stages p (frame_in v) q.stack input in
     let webs = web_run q d input in
     let places = placed_run (with_functions q functions) input in
@@ -125,6 +137,24 @@ calls_follow p q d functions objects input l defined n =
     let words = subst (λ named. Refines (EventInWords q named) places lines) l.linking.named l.selection.runs in
     let down = late_same lines (line_run (placed_program q functions) l.linking.addresses l.linking.scratch input) machine l.placement.runs l.linking.runs in
     let to_webs = source_to_webs q source (flow_run q input) webs l.lowering l.direction.runs in
-    defined_notes (FollowsCalls g) (closed g) p (frame_in v) q.stack input (map_of q functions v) (image_start v.memory) defined
-    (λ k. follows_down q (address_of v) g (source k) webs places lines machine l.places.runs words down
-    (met_with (Through (MomentKept q) (MomentAlike q)) (FollowsCalls g) calls_alone (source k) webs l.direction.calls (to_webs k))) n
+    defined_notes Q closed p (frame_in v) q.stack input (map_of q functions v) (image_start v.memory) defined
+    (λ k. noted_down P Q first second third closed q (address_of v) (source k) webs places lines machine l.places.runs words down
+    (met_with (Through (MomentKept q) (MomentAlike q)) P calls_alone (source k) webs all (to_webs k))) n
+
+pub calls_follow : (p : source.Program) (q : Program) (d : List (List ℕ × Directives)) (functions : List Located) (objects : List Object) (input : List ℕ) → LayersKeep p q d functions objects input
+    → IsDefined (source_runs p (frame_in (image_of objects q.stack)) q.stack input) → (n : ℕ) → Notes (FollowsCalls (graph_of q)) (image_run q functions (image_of objects q.stack) input n)
+calls_follow p q d functions objects input l defined n =
+    let g = graph_of q in
+    machine_notes (FollowsCalls g) (FollowsCalls g) (follows_alike g) (follows_alike g) (follows_alike g) (closed g) p q d functions objects input l l.direction.calls defined n
+
+-- ---- room on the stack
+
+room_closed : (q : Program) → IsClosed (HadRoom q)
+room_closed q = record { earlier = λ e l h. h.1; of_refused = room_of_refused q; to_refused = room_to_refused q }
+
+pub calls_have_room : ActiveCallsHaveRoom → (p : source.Program) (q : Program) (d : List (List ℕ × Directives)) (functions : List Located) (objects : List Object) (input : List ℕ) → LayersKeep p q d functions objects input
+    → StartFits q → NoneForLibrary q.frame_of → IsDefined (source_runs p (frame_in (image_of objects q.stack)) q.stack input) → (n : ℕ) → Notes (HadRoom q) (image_run q functions (image_of objects q.stack) input n)
+unfolding web_run
+calls_have_room law p q d functions objects input l start library defined n =
+    machine_notes (HadRoom q) (HadRoom q) (room_alike q) (room_alike q) (room_alike q) (room_closed q) p q d functions objects input l
+    (law q (map unplaced (directed_functions q d)) input start library) defined n

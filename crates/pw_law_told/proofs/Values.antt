@@ -1,8 +1,10 @@
 -- At each call of a defined program's image the walk of a global comes to its value in C.
 use Rattle.std.specs.Prelude.{ℕ, suc, pos, Bool, Option, None, option_map, if◌then◌else◌, ◌&&◌, ◌≡◌, ◌+◌, ◌-◌, ◌%◌, ◌≤◌, ◌<◌, ◌==◌, nat_le, true, Some, List, [], ◌∷◌, ◌++◌, map, length, Contains}
+use Rattle.std.specs.List.{AllByRecursion, sum_by}
 use Rattle.std.proofs.Common.{arith, subst, sym, ap, refl, ◌∙◌}
 use Rattle.std.proofs.lemmas.Bool.{eq-eqb, le-leb}
 use Rattle.std.proofs.lemmas.List.Elements.{Contains-append_right}
+use Rattle.std.proofs.lemmas.List.Sums.{sum_by-cons}
 use Rattle.pw_value.specs.Limits.{memory_size, stack_least}
 use Rattle.pw_value.specs.ProgramNames.{start_name}
 use Rattle.pw_value.specs.Objects.{Object as Thing, object_at}
@@ -21,7 +23,7 @@ use Rattle.pw_link.specs.Linking.{linked}
 use Rattle.pw_run.specs.Runs.{Refines}
 use Rattle.pw_run_languages.specs.Addresses.{Addresses, AreLawful}
 use Rattle.pw_run_languages.specs.LawfulPrograms.{eligible_names}
-use Rattle.pw_run_languages.specs.LineRun.{Frame, Machine, name_of, start, steps}
+use Rattle.pw_run_languages.specs.LineRun.{Frame, LineFn, Machine, name_of, start, steps}
 use Rattle.pw_run_languages.specs.LinkingLaws.{LinkKeepsRuns, address_of, map_of}
 use Rattle.pw_run_languages.specs.MachineRun.{Call, Map, Noted, noted, own_active, start_state, told_active}
 use Rattle.pw_run_languages.specs.MachineRun as noting
@@ -29,7 +31,7 @@ use Rattle.pw_run_languages.specs.PlacementLaws.{DirectionKeeps, PlacesKeep}
 use Rattle.pw_run_languages.specs.Programs.{AreBytes, Program, globals_of}
 use Rattle.pw_run_languages.specs.SelectionLaws.{PlacementKeeps, PlacementKeepsRuns, SelectionKeeps, SelectionKeepsRuns}
 use Rattle.pw_run_languages.specs.Standing.{pointer_address}
-use Rattle.pw_run_languages.specs.Traces.{Event, Notes, Standing}
+use Rattle.pw_run_languages.specs.Traces.{Called, Event, Notes, Standing}
 use Rattle.pw_law_source.specs.Source.{source_stages}
 use Rattle.pw_law_source.specs.Lowering.{MomentKept}
 use Rattle.pw_run_languages.specs.FlowRun.{flow_run}
@@ -39,13 +41,15 @@ use Rattle.pw_law_layers.specs.Rooms.{MapHasFrames, PlacesFit}
 use Rattle.pw_law_layers.specs.Whole.{AllInMachine, GlobalInMachine, GlobalsInMachine, IsBuilt, LayersKeep}
 use Rattle.pw_law_told.proofs.Rooms.{frame_of_room, frames_are}
 use Rattle.pw_debug.specs.Walk.{cut, in_memory, of_kind, word_in}
-use Rattle.pw_law_where.specs.Counting.{NotesCall}
+use Rattle.pw_law_where.specs.Counting.{NotesCall, call_from}
 use Rattle.pw_law_link_run.specs.Steps.{Setting, map_in}
-use Rattle.pw_law_link_run.specs.Simulating.{IsLinked, Simulates, calls_behind, calls_from}
+use Rattle.pw_law_link_run.specs.Simulating.{IsCaller, IsLinked, Simulates, calls_behind, calls_from}
 use Rattle.pw_law_linked.specs.Settings.{linked_setting}
 use Rattle.pw_law_linked.proofs.Linked.{located_is}
-use Rattle.pw_law_entered.specs.Entered.{HasEntered}
+use Rattle.pw_law_entered.specs.Entered.{HasEntered, first_active, first_call}
 use Rattle.pw_law_callers.specs.Others.{OthersDiffer}
+use Rattle.pw_law_room.specs.Room.{HadRoom, names_active}
+use Rattle.pw_law_room.proofs.Names.{names_called}
 
 -- ---- one global of all
 
@@ -113,14 +117,21 @@ pub record Between (q : Program) (d : List (List ℕ × Directives)) (functions 
   pub selection : SelectionKeeps q d functions w scratch input
   pub placement : PlacementKeeps q functions w scratch input
 
+-- the stack has room for `$start`
+pub start_fits : PlacesFit → MapHasFrames → (p : source.Program) (q : Program) (d : List (List ℕ × Directives)) (functions : List Located) (objects : List Object) → IsBuilt p q d functions objects → q.frame_of start_name ≤ q.stack
+start_fits fit mapped p q d functions objects built =
+    let program = built.implements.program in
+    let frames = frames_are mapped q d functions objects built.frames program built.serve built.made in
+    let first : q.frame_of start_name ≤ start_room = frame_of_room fit q d functions frames built.serve program built.database start_name start_room built.implements.rooms.start in
+    let enough : stack_least ≤ q.stack = built.enough in
+    omega (arith, first, enough)
+
 pub between : PlacesFit → MapHasFrames → PlacementKeepsRuns → SoundDirectivesGuard → SelectionKeepsRuns → (p : source.Program) (q : Program) (d : List (List ℕ × Directives)) (functions : List Located) (objects : List Object) (input : List ℕ)
     → IsBuilt p q d functions objects → AreBytes input → (w : Addresses) (scratch : ℕ → (ℕ → ℕ) → ℕ → ℕ) → AreLawful q w → Between q d functions w scratch input
 between fit mapped placement guard selection p q d functions objects input built bytes w scratch lawful =
     let program = built.implements.program in
     let frames = frames_are mapped q d functions objects built.frames program built.serve built.made in
-    let first : q.frame_of start_name ≤ start_room = frame_of_room fit q d functions frames built.serve program built.database start_name start_room built.implements.rooms.start in
-    let enough : stack_least ≤ q.stack = built.enough in
-    let start : q.frame_of start_name ≤ q.stack = omega (arith, first, enough) in
+    let start = start_fits fit mapped p q d functions objects built in
     record {
       selection = selection q d functions w scratch input program built.database.directives (guard q d functions built.database built.sound built.serve) built.serve frames start lawful bytes;
       placement = placement q d functions w scratch input program built.database.directives built.serve frames start lawful bytes;
@@ -184,3 +195,52 @@ stands_there q named things number now before g after is count all =
     let at : 0 + length before ≡ number = omega (arith, count) in
     subst (λ (i : ℕ). GlobalInMachine (pointer_address q named all.place) things g (object_at things i).bytes (now g)) at
     (one_global q named all.place things now before g after 0 (subst (λ (gs : List FlowGlobal). GlobalsInMachine q named all.place things gs 0 (map now gs)) is all.each))
+
+-- ---- the first call
+
+pub first_is : (f : LineFn) (stack : ℕ) (gs : List Frame) → first_active f gs ≡ (first_call f stack gs).0
+first_is f stack [] = refl
+first_is f stack (g ∷ gs) = first_is g.function g.stack gs
+
+-- ---- room on the stack
+
+tail_names : (f g : List ℕ) (xs ys : List (List ℕ)) → f ∷ xs ≡ g ∷ ys → xs ≡ ys
+tail_names f g xs ys e = cc
+
+-- those that were active before a call had room
+pub callers_fit : (q : Program) (m : Map) (k : ℕ) (core : Core) (n : Noted) (call : NotesCall m k core n) → told_active n.log ≡ own_active n.calls → HadRoom q n.log
+    → sum_by q.frame_of (own_active call.callers) ≤ q.stack
+callers_fit q m k core n call own had =
+    let gs = noting.globals_in m core call.callers in
+    let rs = noting.kept core in
+    let logged : HadRoom q (Called call.function gs rs ∷ call.before) = subst (λ (l : List (Event ℕ ℕ)). HadRoom q l) call.called had in
+    let told : names_active (Called call.function gs rs ∷ call.before) ≡ own_active (call_from call.function core ∷ call.callers) =
+    sym (ap (λ (l : List (Event ℕ ℕ)). names_active l) call.called) ∙ own ∙ ap own_active call.active in
+    let names : call.function ∷ names_active call.before ≡ call.function ∷ own_active call.callers = sym (names_called call.function gs rs call.before) ∙ told in
+    subst (λ (ns : List (List ℕ)). sum_by q.frame_of ns ≤ q.stack) (tail_names call.function call.function (names_active call.before) (own_active call.callers) names) logged.0
+
+abbrev pub FramesOf : Program → Setting → Type 0
+FramesOf q x = (g : LineFn) → Contains x.program.functions g → q.frame_of g.located.body.name ≡ g.located.frame
+
+sum_frames : (q : Program) (x : Setting) → FramesOf q x → (gs : List Frame) → AllByRecursion (IsCaller x) gs → sum_by q.frame_of (map name_of gs) ≡ sum_by (λ (g : Frame). g.function.located.frame) gs
+sum_frames q x each [] are = refl
+sum_frames q x each (g ∷ gs) are =
+    let own : q.frame_of (name_of g) ≡ g.function.located.frame = each g.function are.0.there in
+    let rest = sum_frames q x each gs are.1 in
+    let named = sum_by-cons q.frame_of (name_of g) (map name_of gs) in
+    let all = sum_by-cons (λ (h : Frame). h.function.located.frame) g gs in
+    let same : sum_by q.frame_of (name_of g ∷ map name_of gs) ≡ sum_by (λ (h : Frame). h.function.located.frame) (g ∷ gs) = omega (arith, own, rest, named, all) in
+    same
+
+-- so have their frames
+pub frames_fit : (q : Program) (x : Setting) → FramesOf q x → (gs : List Frame) → AllByRecursion (IsCaller x) gs → (calls : List Call) → calls_behind x gs ≡ calls → sum_by q.frame_of (own_active calls) ≤ q.stack
+    → sum_by (λ (g : Frame). g.function.located.frame) gs ≤ q.stack
+frames_fit q x each gs are calls same fits =
+    let names : own_active calls ≡ map name_of gs = ap own_active (sym same) ∙ own_names x gs in
+    let there : sum_by q.frame_of (own_active calls) ≡ sum_by q.frame_of (map name_of gs) = ap (λ (ns : List (List ℕ)). sum_by q.frame_of ns) names in
+    let sums = sum_frames q x each gs are in
+    omega (arith, fits, there, sums)
+
+pub all_mapped : (P Q : Located → Type 0) → ((l : Located) → P l → Q l) → (ls : List Located) → AllByRecursion P ls → AllByRecursion Q ls
+all_mapped P Q f [] all = tt
+all_mapped P Q f (l ∷ ls) all = (f l all.0, all_mapped P Q f ls all.1)

@@ -1,5 +1,6 @@
--- A global of a program as the debugger tells of it.
+-- A global of a program as the debugger tells of it, and the functions that are active at a call.
 use Rattle.std.specs.Prelude.{ℕ, ◌≡◌, Some, List, ◌∷◌, ◌++◌, length}
+use Rattle.std.specs.List.{AllByRecursion}
 use Rattle.pw_value.specs.declared.value.Kind.{Kind}
 use Rattle.pw_flow.specs.ValidFlow.{kind_size}
 use Rattle.pw_flow.specs.declared.flow.FlowGlobal.{FlowGlobal}
@@ -7,6 +8,10 @@ use Rattle.pw_image.specs.declared.image.GlobalObject.{GlobalObject}
 use Rattle.pw_image.specs.declared.image.Image.{Image}
 use Rattle.pw_run_languages.specs.Programs.{Program, globals_of}
 use Rattle.pw_run_languages.specs.LinkingLaws.{address_of}
+use Rattle.pw_run_languages.specs.Standing.{Active}
+use Rattle.pw_machine.specs.Core.{Core}
+use Rattle.pw_debug.specs.Walk.{Seen, start_of}
+use Rattle.pw_law_walk.specs.Chains.{Callers, StandsInMemory}
 use Rattle.pw_cmean.specs.Worlds as source
 use Rattle.pw_cmean.specs.Worlds.{World}
 use Rattle.pw_law_pause.specs.Moments.{noted_within}
@@ -32,3 +37,9 @@ world_of p frame_of stack = record { program = p; frame_of = frame_of; stack = s
 pub record IsPause (p : source.Program) (input : List ℕ) (k : ℕ) (f : List ℕ) (things : List Thing) : Type 0 where
   pub bound : ℕ
   pub call : IsSourceCall (noted_within (world_of p (λ f. 0) 0) input bound) k f things
+
+-- These functions are active in a state of the machine, one behind another as a walk meets them, and the frame of each stands in
+-- the memory.
+pub record StandAt (looks : Seen) (core : Core) (active : List Active) : Type 0 where
+  pub callers : Callers looks (start_of core).stack (start_of core).link active
+  pub inside : AllByRecursion StandsInMemory active

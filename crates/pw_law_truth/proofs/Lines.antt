@@ -100,6 +100,28 @@ pub has_text : (first lines : List ℕ) (values : Result (List ℕ) ℕ) → Ok 
 has_text first lines (Ok text) e = let is : lines ≡ first ++ text = cc in record { text = text; values_are = refl; is = is }
 has_text first lines (Err address) e = absurd cc
 
+-- ---- a walk that is lost
+
+no_text : (first : List ℕ) (values : Result (List ℕ) ℕ) (address : ℕ) → behind first values ≡ Err address → values ≡ Err address
+no_text first (Ok text) address e = absurd cc
+no_text first (Err own) address e = e
+
+pub lost_text : (first : List ℕ) (values : Result (List ℕ) ℕ) (address : ℕ) → Err address ≡ behind first values → values ≡ Err address
+lost_text first values address e = no_text first values address (sym e)
+
+one_address : (a b : ℕ) → ◌≡◌ {A = Result (List ℕ) ℕ} (Err a) (Err b) → a ≡ b
+one_address a b e = cc
+
+-- the address is told of a walk of one of those that are shown
+pub not_lost : (P : Shown → Type 0) (functions : List Function) (frames : List FrameInfo) (core : Core) (address : ℕ)
+    → ((g : Shown) → P g → WalksTo (seen core.memory functions frames g.object g.number.kind) (start_of core) (Err address) → ⊥)
+    → (shown : List Shown) (lines : Result (List ℕ) ℕ) → AllByRecursion P shown → Values functions frames core shown lines → lines ≡ Err address → ⊥
+not_lost P functions frames core address never shown lines all no_more e = cc
+not_lost P functions frames core address never shown lines all (value_of g rest word more walk values) e =
+    not_lost P functions frames core address never rest more all.1 values (no_text (value_line g word) more address e)
+not_lost P functions frames core address never shown lines all (lost_of g rest own walk) e =
+    never g all.0 (subst (λ (a : ℕ). WalksTo (seen core.memory functions frames g.object g.number.kind) (start_of core) (Err a)) (one_address own address e) walk)
+
 -- ---- what holds of all in one order holds of them in another
 
 pub all_ordered : (P : Shown → Type 0) (xs ys : List Shown) → IsPermutation xs ys → AllByRecursion P xs → AllByRecursion P ys

@@ -1,10 +1,11 @@
 -- The globals of a program, by their places in the list of all, and where the map of its image has them.
-use Rattle.std.proofs.Common.{◌≡◌, ◌≢◌, ℕ, suc, Bool, true, false, if◌then◌else◌, List, [], ◌∷◌, ◌++◌, map, length, take, Option, Some, None, refl, sym, ap, subst, ◌∙◌, append_assoc}
-use Rattle.std.specs.Prelude.{unwrap_or}
+use Rattle.std.proofs.Common.{◌≡◌, ◌≢◌, ℕ, suc, Bool, true, false, if◌then◌else◌, List, [], ◌∷◌, ◌++◌, map, length, take, Option, Some, None, refl, sym, ap, subst, ◌∙◌, append_assoc, arith}
+use Rattle.std.specs.Prelude.{Contains, unwrap_or}
 use Rattle.std.specs.List.{AllByRecursion}
 use Rattle.std.specs.Map.{lookup}
 use Rattle.std.specs.Str.{bytes_eq}
 use Rattle.std.proofs.lemmas.List.{append-nil, map-append}
+use Rattle.std.proofs.lemmas.List.Elements.{Contains-append_right}
 use Rattle.pw_flow.specs.ValidFlow.{AreDistinct}
 use Rattle.pw_flow.specs.declared.flow.FlowGlobal.{FlowGlobal}
 use Rattle.pw_db.specs.declared.database.Directives.{Directives}
@@ -165,3 +166,6 @@ all_placed q functions v apart named own globals =
       functions = functions_placed v v.functions (first_entries (IsEntry table) (function_sites v.functions) (global_sites v.globals) found);
       globals = globals_placed v v.globals (last_entries (IsEntry table) (function_sites v.functions) (global_sites v.globals) found);
     }
+
+pub known_there : (q : Program) (before : List FlowGlobal) (g : FlowGlobal) (after : List FlowGlobal) → globals_of q ≡ before ++ g ∷ after → Contains (globals_of q) g
+known_there q before g after is = subst (λ (gs : List FlowGlobal). Contains gs g) (sym is) (Contains-append_right before (g ∷ after) g (0, omega arith, refl))

@@ -1,5 +1,5 @@
 -- What the lines say that a debugger shows at a program's k-th call, and when that is true of the program.
-use Rattle.std.specs.Prelude.{ℕ, ◌≡◌, List, [], ◌∷◌, ◌++◌, length, map}
+use Rattle.std.specs.Prelude.{ℕ, ◌≡◌, List, [], ◌∷◌, ◌++◌, length, map, Ok, Err, Option}
 use Rattle.std.specs.List.{AllByRecursion, flat_map}
 use Rattle.pw_value.specs.declared.value.Byte.{Byte}
 use Rattle.pw_value.specs.declared.value.Value.TheVariants.{Num}
@@ -17,7 +17,8 @@ use Rattle.pw_cmean.specs.Access.{value_in}
 use Rattle.pw_run_languages.specs.LinkingLaws.{frame_in}
 use Rattle.pw_where.specs.declared.shown.Shown.{Shown}
 use Rattle.pw_where.specs.Shown.{call_line, value_line}
-use Rattle.pw_where.specs.Looks.{AreShown}
+use Rattle.pw_where.specs.Looks.{AreShown, ShowsAt}
+use Rattle.pw_debug.specs.declared.info.FrameInfo.{FrameInfo}
 use Rattle.pw_law_pause.specs.Moments.{noted_within}
 use Rattle.pw_law_calls.specs.Calls.{IsSmall, IsSourceCall}
 use Rattle.pw_law_told.specs.Told.{world_of}
@@ -78,3 +79,10 @@ pub record TellTrue (p : Program) (image : Image) (objects : List Object) (k : �
   pub shown : AreShown image objects (map (λ said. said.0) values)
   pub are : lines ≡ call_line k f ++ lines_of values
   pub say : AllByRecursion (SaysTrue p things) values
+
+-- What is shown at the k-th call of an image's run, over these frames, is the truth: lines are true of the program's k-th call, if it
+-- comes to one on its stack; and no walk is lost.
+pub record ShowsTruth (p : Program) (image : Image) (objects : List Object) (frames : List FrameInfo) (stack k budget : ℕ) (input : List ℕ) : Type 0 where
+  pub lines : (lines : List ℕ) (rest : Option (List ℕ)) (f : List ℕ) (things : List Thing) → ShowsAt image objects frames k budget input (Ok lines) rest →
+      ComesToCall p image stack input k f things → TellTrue p image objects k lines f things
+  pub walks : (address : ℕ) (rest : Option (List ℕ)) → ¬ ShowsAt image objects frames k budget input (Err address) rest

@@ -1,8 +1,7 @@
 //! The law. The function here does nothing: its clause is a fact about all values.
 
-ghost use Rattle.std.specs.Prelude.{◌≡◌, ℕ, List, Ok, Option, map};
+ghost use Rattle.std.specs.Prelude.{◌≡◌, ℕ, List, map};
 ghost use Rattle.std.specs.List.{AllByRecursion};
-ghost use Rattle.pw_value.specs.Objects.{Object as Thing};
 ghost use Rattle.pw_db.specs.declared.database.Directives.{Directives};
 ghost use Rattle.pw_object.specs.declared.object.Object.{Object};
 ghost use Rattle.pw_alloc.specs.ValidPlaces.{IsLocated};
@@ -15,8 +14,7 @@ ghost use Rattle.pw_run_languages.specs.PlacementLaws.{DirectionKeeps, PlacesKee
 ghost use Rattle.pw_law_source.specs.Source.{source_runs};
 ghost use Rattle.pw_law_layers.specs.Whole.{IsBuilt, image_of};
 ghost use Rattle.pw_debug_frames.specs.Frames.{frame_info};
-ghost use Rattle.pw_where.specs.Looks.{ShowsAt};
-ghost use Rattle.pw_law_truth.specs.Truth.{ComesToCall, TellTrue, definitions_of, lowered_definition};
+ghost use Rattle.pw_law_truth.specs.Truth.{ShowsTruth, definitions_of, lowered_definition};
 
 use pw_law_calls::laws::calls_are_those_of_the_source;
 use pw_law_code::code::{linked_addresses_are_lawful, maps_name_the_program};
@@ -24,19 +22,17 @@ use pw_law_entries::laws::linked_programs_have_their_entries;
 use pw_law_layers::layers_compose;
 use pw_law_linked::linking_keeps_runs;
 use pw_law_selection::selection_keeps_runs;
-use pw_law_told::laws::values_are_those_of_the_program;
+use pw_law_told::laws::{values_are_those_of_the_program, walks_are_not_lost};
 
-/// What the debugger shows at the k-th call of a built program's image is true of the program, if this is defined on the input
-/// and comes to a k-th call on its stack: the line of the call names its function, and each line of a global whose object has a
-/// value of an integer type then says that value.
+/// What the debugger shows at the k-th call of a built program's image is the truth, if the program is defined on the input. Where
+/// it comes to a k-th call on its stack, the line of the call names its function, and each line of a global whose object has a
+/// value of an integer type then says that value. No walk over the frames is lost.
 pub fn lines_say_true()
-    ensures { (p : source.Program) (q : Program) (d : List (List ℕ × Directives)) (functions : List Located) (objects : List Object) (input : List ℕ) (k budget : ℕ) (lines : List ℕ) (rest : Option (List ℕ)) (f : List ℕ) (things : List Thing) →
+    ensures { (p : source.Program) (q : Program) (d : List (List ℕ × Directives)) (functions : List Located) (objects : List Object) (input : List ℕ) (k budget : ℕ) →
         IsBuilt p q d functions objects → AllByRecursion IsLocated functions → AreBytes input → DirectionKeeps q d input → PlacesKeep q d functions input →
         globals_of q ≡ map lowered_definition (definitions_of p) →
         IsDefined (source_runs p (frame_in (image_of objects q.stack)) q.stack input) →
-        ShowsAt (image_of objects q.stack) objects (map frame_info functions) k budget input (Ok lines) rest →
-        ComesToCall p (image_of objects q.stack) q.stack input k f things →
-        TellTrue p (image_of objects q.stack) objects k lines f things }
+        ShowsTruth p (image_of objects q.stack) objects (map frame_info functions) q.stack k budget input }
 {
     calls_are_those_of_the_source();
     linked_addresses_are_lawful();
@@ -46,4 +42,5 @@ pub fn lines_say_true()
     linking_keeps_runs();
     selection_keeps_runs();
     values_are_those_of_the_program();
+    walks_are_not_lost();
 }

@@ -7,6 +7,7 @@ use Rattle.std.proofs.lemmas.List.{get_or-set_same, get_or-set_other, length-set
 use Rattle.std.proofs.lemmas.List.FromFn.{get_or-map-range_with_len}
 use Rattle.pw_value.specs.Limits.{memory_size}
 use Rattle.pw_value.specs.ProgramNames.{start_name}
+use Rattle.pw_value.specs.Rounding.{slot_room}
 use Rattle.pw_value.specs.declared.value.Kind.{Kind}
 use Rattle.pw_db.specs.Limits.{first_register, last_register}
 use Rattle.pw_db.specs.Database.{IsWeb}
@@ -14,7 +15,7 @@ use Rattle.pw_db.specs.declared.database.Web.{Web}
 use Rattle.pw_db.specs.declared.database.Role.{Role}
 use Rattle.pw_webflow.specs.Direction.{register_of}
 use Rattle.pw_alloc.specs.Allocation.{in_frame}
-use Rattle.pw_alloc.specs.Frames.{below, head_size, link_place, saved_offset, slots_begin}
+use Rattle.pw_alloc.specs.Frames.{below, head_size, last_reach, link_place, saved_offset, slots_begin}
 use Rattle.pw_alloc.specs.ValidPlaces.{IsLocated}
 use Rattle.pw_alloc.specs.declared.located.Located.{Located}
 use Rattle.pw_alloc.proofs.FrameLaws.{last_reach_above}
@@ -33,7 +34,7 @@ use Rattle.pw_debug.specs.Walk.{Seen, WalksTo, behind as call_behind, found_at, 
 use Rattle.pw_debug.specs.Holding.{frame_at}
 use Rattle.pw_debug.proofs.Finding.{lawful_register}
 use Rattle.pw_debug_frames.specs.Frames.{frame_info, places_from, save_places}
-use Rattle.pw_law_walk.specs.Chains.{Callers, Chain, called, calls, found, outermost, starts}
+use Rattle.pw_law_walk.specs.Chains.{Callers, Chain, StandsInMemory, called, calls, found, outermost, starts}
 
 -- ---- words
 
@@ -306,3 +307,105 @@ pub value_is_held : (core : Core) (functions : List Function) (frames : List Fra
     → WalksTo (seen core.memory functions frames object kind) (start_of core) (Ok value) → value ≡ found kind word (held object.name (byte_at core.memory) (register core) active)
 value_is_held core functions frames object kind active word value callers there walk =
     held_value (seen core.memory functions frames object kind) (start_of core) (start_of core).stack (start_of core).link active (register core) word value refl refl there (machine_alike core) callers walk
+
+-- ---- a walk that is not lost
+
+room_even : (size : ℕ) → slot_room size % 8 ≡ 0
+room_even size = omega arith
+
+reach_even : (at : ℕ) (slots : List ℕ) → at % 8 ≡ 0 → last_reach at slots % 8 ≡ 0
+reach_even at [] h = h
+reach_even at (size ∷ rest) h = reach_even (at + slot_room size) rest (let e = room_even size in omega (arith, h, e))
+
+pub frame_even : (l : Located) → IsLocated l → l.frame % 8 ≡ 0
+frame_even l h =
+    let even = reach_even (slots_begin (head_size l.body) (length l.saved) (in_frame l.places)) l.body.slots (omega arith) in
+    ap (λ (n : ℕ). n % 8) h.frame ∙ even
+
+word_there : (memory : List ℕ) (sp n : ℕ) → n ≤ sp → (sp - n) % 4 ≡ 0 → sp - n + 4 ≤ memory_size → word_in memory (pos sp +ℤ below n) ≡ Some (word_at memory (sp - n))
+word_there memory sp n le even fits =
+    let one : ((sp - n) % 4 == 0) ≡ true = eq-eqb ((sp - n) % 4) 0 even in
+    let two : nat_le (sp - n + 4) memory_size ≡ true = le-leb (sp - n + 4) memory_size fits in
+    ap (λ (z : ℤ). word_in memory z) (down sp n le)
+    ∙ (ap (λ (t : Bool). cond (t && nat_le (sp - n + 4) memory_size) (Some (word_at memory (sp - n))) None) one
+    ∙ ap (λ (t : Bool). cond t (Some (word_at memory (sp - n))) None) two)
+
+-- registers that were saved in the memory are given back
+given_there : (memory : List ℕ) (sp head i : ℕ) (rs registers : List ℕ) → sp % 4 ≡ 0 → head % 4 ≡ 0 → 4 ≤ head → sp ≤ memory_size → head + 4 * (i + length rs) ≤ sp
+    → (all : List ℕ) × (gives memory sp head i rs registers ≡ Some all)
+given_there memory sp head i [] registers even quarter least high room = (registers, refl)
+given_there memory sp head i (r ∷ rs) registers even quarter least high room =
+    let more : length (r ∷ rs) ≡ suc (length rs) = refl in
+    let deep : head + 4 * (i + 1) ≤ sp = omega (arith, room, more) in
+    let at : (sp - (head + 4 * (i + 1))) % 4 ≡ 0 = omega (arith, even, quarter, deep) in
+    let fits : sp - (head + 4 * (i + 1)) + 4 ≤ memory_size = omega (arith, high, least, deep) in
+    let there = word_there memory sp (head + 4 * (i + 1)) deep at fits in
+    let behind : head + 4 * (i + 1 + length rs) ≤ sp = omega (arith, room, more) in
+    let rest = given_there memory sp head (i + 1) rs (slice_set registers r (word_at memory (sp - (head + 4 * (i + 1))))) even quarter least high behind in
+    (rest.0, ap (λ (o : Option ℕ). option_and_then (λ word. gives memory sp head (i + 1) rs (slice_set registers r word)) o) there ∙ rest.1)
+
+-- the walk goes on behind a function whose frame stands in the memory
+record GoesOutward (memory : List ℕ) (at : At) (a : Active) : Type 0 where
+  registers : List ℕ
+  link : ℕ
+  word : word_in memory (pos a.stack +ℤ below link_place) ≡ Some link
+  out : outward memory (frame_info a.function) at ≡ Some (record { stack = a.stack; link = link; registers = registers })
+
+goes_outward : (memory : List ℕ) (at : At) (a : Active) → IsLocated a.function → StandsInMemory a → at.stack ≡ a.stack + a.function.frame → GoesOutward memory at a
+goes_outward memory at a lawful inside end =
+    let head = head_size a.function.body in
+    let holds = frame_holds a.function lawful in
+    let whole = frame_even a.function lawful in
+    let low = inside.low in
+    let high = inside.high in
+    let aligned = inside.aligned in
+    let even : at.stack % 4 ≡ 0 = omega (arith, end, aligned, whole) in
+    let quarter : head % 4 ≡ 0 = omega arith in
+    let least : 4 ≤ head = omega arith in
+    let top : at.stack ≤ memory_size = omega (arith, end, high) in
+    let room : head + 4 * (0 + length a.function.saved) ≤ at.stack = omega (arith, holds, end) in
+    let given = given_there memory at.stack head 0 a.function.saved at.registers even quarter least top room in
+    let enough : nat_le a.function.frame at.stack ≡ true = le-leb a.function.frame at.stack (omega (arith, end)) in
+    let minus : at.stack - a.function.frame ≡ a.stack = omega (arith, end) in
+    let word = word_there memory a.stack link_place low (omega (arith, low, aligned)) (omega (arith, low, high)) in
+    record {
+      registers = given.0;
+      link = word_at memory (a.stack - link_place);
+      word = word;
+      out = outward_by memory (frame_info a.function) at a.stack given.0 (word_at memory (a.stack - link_place)) enough minus given.1 word;
+    }
+
+no_value : (address value : ℕ) → ◌≡◌ {A = Result ℕ ℕ} (Err address) (Ok value) → ⊥
+no_value address value e = cc
+
+in_start_found : (s : Seen) (at : At) (a : Active) (v address : ℕ) (o : Option ℕ) → register_of a.function.body.directives.webs s.global ≡ o → frame_at s.functions s.frames at.link ≡ Some (frame_info a.function)
+    → bytes_eq a.function.body.name start_name ≡ true → in_memory s.memory s.kind s.address ≡ Some v → ComesTo s (turn s at) (Err address) → ⊥
+in_start_found s at a v address (Some r) web known is there walk =
+    no_value address (of_kind s.kind (slice_index at.registers r)) (subst (λ (t : Finding). ComesTo s t (Err address)) (by_web s at (frame_info a.function) r known web) walk)
+in_start_found s at a v address None web known is there walk =
+    no_value address v (subst (λ (t : Finding). ComesTo s t (Err address)) (by_start s at (frame_info a.function) v known web is there) walk)
+
+in_frame_found : (s : Seen) (at : At) (a : Active) (address link : ℕ) (o : Option ℕ) → register_of a.function.body.directives.webs s.global ≡ o → frame_at s.functions s.frames at.link ≡ Some (frame_info a.function)
+    → bytes_eq a.function.body.name start_name ≡ false → IsLocated a.function → StandsInMemory a → at.stack ≡ a.stack + a.function.frame
+    → ((word : ℕ) → word_in s.memory (pos a.stack +ℤ below link_place) ≡ Some word → word ≡ link) → ComesTo s (turn s at) (Err address)
+    → ((next : At) → next.stack ≡ a.stack → next.link ≡ link → WalksTo s next (Err address) → ⊥) → ⊥
+in_frame_found s at a address link (Some r) web known other lawful inside end linked walk more =
+    no_value address (of_kind s.kind (slice_index at.registers r)) (subst (λ (t : Finding). ComesTo s t (Err address)) (by_web s at (frame_info a.function) r known web) walk)
+in_frame_found s at a address link None web known other lawful inside end linked walk more =
+    let g = goes_outward s.memory at a lawful inside end in
+    let next : At = record { stack = a.stack; link = g.link; registers = g.registers } in
+    more next refl (linked g.link g.word) (subst (λ (t : Finding). ComesTo s t (Err address)) (by_frame s at next (frame_info a.function) known web other g.out) walk)
+
+not_lost : (s : Seen) (at : At) (stack link : ℕ) (active : List Active) (v address : ℕ) → at.stack ≡ stack → at.link ≡ link → in_memory s.memory s.kind s.address ≡ Some v
+    → Callers s stack link active → AllByRecursion StandsInMemory active → WalksTo s at (Err address) → ⊥
+not_lost s at stack link active v address p q there (outermost sp ra a lawful known is) inside walk =
+    in_start_found s at a v address (register_of a.function.body.directives.webs s.global) refl (ap (λ (n : ℕ). frame_at s.functions s.frames n) q ∙ known) is there (turned s at (Err address) walk)
+not_lost s at stack link active v address p q there (called sp ra next a callers lawful known other end linked behind) inside walk =
+    in_frame_found s at a address next (register_of a.function.body.directives.webs s.global) refl (ap (λ (n : ℕ). frame_at s.functions s.frames n) q ∙ known) other lawful inside.0 (p ∙ end) linked
+    (turned s at (Err address) walk) (λ to p' q' walk'. not_lost s to a.stack next callers v address p' q' there behind inside.1 walk')
+
+pub walk_is_not_lost : (core : Core) (functions : List Function) (frames : List FrameInfo) (object : GlobalObject) (kind : Kind) (active : List Active) (word address : ℕ)
+    → Callers (seen core.memory functions frames object kind) (start_of core).stack (start_of core).link active → AllByRecursion StandsInMemory active → in_memory core.memory kind object.address ≡ Some word
+    → WalksTo (seen core.memory functions frames object kind) (start_of core) (Err address) → ⊥
+walk_is_not_lost core functions frames object kind active word address callers inside there walk =
+    not_lost (seen core.memory functions frames object kind) (start_of core) (start_of core).stack (start_of core).link active word address refl refl there callers inside walk

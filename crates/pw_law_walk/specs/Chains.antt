@@ -1,5 +1,6 @@
 -- Functions that are active, one behind another, as a walk over their frames meets them.
-use Rattle.std.specs.Prelude.{ℕ, ◌≡◌, pos, ◌+◌, ◌+ℤ◌, true, false, Option, Some, None, List, [], ◌∷◌, bytes_eq}
+use Rattle.std.specs.Prelude.{ℕ, ◌≡◌, ◌≤◌, pos, ◌+◌, ◌%◌, ◌+ℤ◌, true, false, Option, Some, None, List, [], ◌∷◌, bytes_eq}
+use Rattle.pw_value.specs.Limits.{memory_size}
 use Rattle.pw_value.specs.ProgramNames.{start_name}
 use Rattle.pw_value.specs.declared.value.Kind.{Kind}
 use Rattle.pw_alloc.specs.Frames.{below, link_place}
@@ -31,6 +32,12 @@ pub data Callers (s : Seen) : ℕ → ℕ → List Active → Type 0 where
       → stack ≡ a.stack + a.function.frame
       → ((word : ℕ) → word_in s.memory (pos a.stack +ℤ below link_place) ≡ Some word → word ≡ next)
       → Callers s a.stack next callers → Callers s stack link (a ∷ callers)
+
+-- The frame of an active function stands in the memory, at multiples of 8, behind room for a return address.
+pub record StandsInMemory (a : Active) : Type 0 where
+  pub low : link_place ≤ a.stack
+  pub aligned : a.stack % 8 ≡ 0
+  pub high : a.stack + a.function.frame ≤ memory_size
 
 -- what is found where a global stands: in a word, as its kind has it; or else what memory holds
 abbrev pub found : Kind → ℕ → Option ℕ → ℕ

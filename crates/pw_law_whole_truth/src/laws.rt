@@ -1,8 +1,7 @@
 //! The law. The function here does nothing: its clause is a fact about all values.
 
-ghost use Rattle.std.specs.Prelude.{◌≤◌, ℕ, List, Ok, Option};
+ghost use Rattle.std.specs.Prelude.{◌≤◌, ℕ, List, Ok};
 ghost use Rattle.pw_value.specs.Limits.{stack_least, stack_limit};
-ghost use Rattle.pw_value.specs.Objects.{Object as Thing};
 ghost use Rattle.pw_db.specs.Limits.{colour_limit};
 ghost use Rattle.pw_store_modules.specs.Modules.{Texts};
 ghost use Rattle.pw_build_opts.specs.declared.opts.Opts.{Opts};
@@ -17,8 +16,7 @@ ghost use Rattle.pw_law_layers.specs.Whole.{image_of};
 ghost use Rattle.pw_law_whole.specs.Programs.{HavePlainNames, IsProgramOf};
 ghost use Rattle.pw_debug.specs.declared.info.FrameInfo.{FrameInfo};
 ghost use Rattle.pw_debug_frames.specs.Frames.{AreFrames};
-ghost use Rattle.pw_where.specs.Looks.{ShowsAt};
-ghost use Rattle.pw_law_truth.specs.Truth.{ComesToCall, TellTrue};
+ghost use Rattle.pw_law_truth.specs.Truth.{ShowsTruth};
 
 use pw_alloc_temps::laws::allocation_is_lawful;
 use pw_build::phase_one_is_exact;
@@ -31,15 +29,13 @@ use pw_law_truth::laws::lines_say_true;
 use pw_law_whole::full_builds_are_whole;
 use pw_opt::optimised_forms_are_one;
 
-/// What the debugger shows at the k-th call of the image of a full build is true of the program of its texts, if this is defined
-/// on the input and comes to a k-th call on its stack.
+/// What the debugger shows at the k-th call of the image of a full build is the truth of the program of its texts, if this is
+/// defined on the input.
 pub fn full_builds_tell_the_truth()
-    ensures { (texts : Texts) (opts : Opts) (parts : Parts) (p : Program) (frames : List FrameInfo) (k budget : ℕ) (input lines : List ℕ) (rest : Option (List ℕ)) (f : List ℕ) (things : List Thing) →
+    ensures { (texts : Texts) (opts : Opts) (parts : Parts) (p : Program) (frames : List FrameInfo) (k budget : ℕ) (input : List ℕ) →
         FullBuild texts opts (Ok parts) → IsProgramOf texts p → HavePlainNames texts → opts.colours ≤ colour_limit → stack_least ≤ opts.stack → opts.stack ≤ stack_limit →
         AreFrames parts.objects frames → AreBytes input → IsDefined (source_runs p (frame_in (image_of parts.objects opts.stack)) opts.stack input) →
-        ShowsAt (image_of parts.objects opts.stack) parts.objects frames k budget input (Ok lines) rest →
-        ComesToCall p (image_of parts.objects opts.stack) opts.stack input k f things →
-        TellTrue p (image_of parts.objects opts.stack) parts.objects k lines f things }
+        ShowsTruth p (image_of parts.objects opts.stack) parts.objects frames opts.stack k budget input }
 {
     allocation_is_lawful();
     phase_one_is_exact();

@@ -51,7 +51,7 @@ source-gone files file texts f = nothing-more texts (source_in files file) (pick
 pub source-none : (files : Files) (file : List ℕ) (texts : Texts) → is_source_file file ≡ false → texts ≡ texts ++ option_to_list (source_in files file)
 source-none files file texts e = nothing-more texts (source_in files file) (picked-none (is_source_file file) (finite.get files file) (stem file) e)
 
-behind : (a b : Bool) → (a && b) ≡ true → b ≡ true
+pub behind : (a b : Bool) → (a && b) ≡ true → b ≡ true
 behind true b e = e
 behind false b e = cc
 

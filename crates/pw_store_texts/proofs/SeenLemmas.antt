@@ -23,12 +23,13 @@ use Rattle.pw_store_modules.specs.Views.{source}
 use Rattle.pw_store_modules.specs.declared.few.ModulesFault.{ModulesFault}
 use Rattle.pw_store_modules.specs.declared.few.ModulesFault.TheVariants as modules
 use Rattle.pw_store_modules.specs.declared.modules.Module.{Module}
+use Rattle.pw_store_texts.specs.Bytes.{is_crowded}
 use Rattle.pw_store_texts.specs.Headers.{headers_of}
 use Rattle.pw_store_texts.specs.Names.{is_source_file}
 use Rattle.pw_store_texts.specs.Outputs.{output_of}
 use Rattle.pw_store_texts.specs.Placing.{placed, with_outputs}
 use Rattle.pw_store_texts.specs.Seen as seen
-use Rattle.pw_store_texts.specs.Seen.{AllCome, AnswersSeen, IsSeen, Outputs, StoreComes, outcome, seen_text, sources_among, sources_of}
+use Rattle.pw_store_texts.specs.Seen.{AllCome, AnswersPreprocessed, IsPreprocessed, IsSeen, Outputs, StoreComes, first_name, outcome, refused, refused_text, seen_text, sources_among, sources_of, within_bytes}
 use Rattle.pw_store_texts.specs.declared.compiled.Compiled.{Compiled}
 use Rattle.pw_value.specs.Limits.{module_limit}
 use Rattle.pw_store_texts.proofs.HeaderLemmas.{source-named}
@@ -105,7 +106,7 @@ map_with laws files name text named =
     one_text laws files name text named q (eq_by_cmp (slice_cmp nat_cmp) q name) refl
     ∙ sym (get-insert nat_list_cmp_total (module_map files) name (prefix_of text_read text) q))
 
-modules_with : Laws → (files : Files) (name text : List ℕ) → is_module_name name ≡ true → modules_of (finite.insert files (text_name name) text) ≡ placed name (prefix_of text_read text) (modules_of files)
+pub modules_with : Laws → (files : Files) (name text : List ℕ) → is_module_name name ≡ true → modules_of (finite.insert files (text_name name) text) ≡ placed name (prefix_of text_read text) (modules_of files)
 modules_with laws files name text named = ap finite.entries (map_with laws files name text named) ∙ entries-insert nat_list_cmp_total (module_map files) name (prefix_of text_read text)
 
 abbrev AreNamed : Outputs → Type 0
@@ -140,8 +141,8 @@ come_named headers sources outputs (seen.more name text output left rest comes k
 seen_by : Laws → (files : Files) (outputs : Outputs) → StoreComes files outputs → with_outputs (modules_of files) outputs ≡ modules_of (seen.seen files outputs)
 seen_by laws files outputs comes = placed-seen laws files outputs (come_named (headers_of files) (sources_of files) outputs comes (sources_named files (finite.keys files)))
 
-is_seen : (files : Files) (outputs : Outputs) → StoreComes files outputs → IsSeen files (seen.seen files outputs)
-is_seen files outputs comes = (outputs, comes, refl)
+is_preprocessed : (files : Files) (outputs : Outputs) → StoreComes files outputs → IsPreprocessed files (seen.seen files outputs)
+is_preprocessed files outputs comes = (outputs, comes, refl)
 
 -- the modules that were read, with what comes of C sources
 pub placed-over : (told : Option Told) (sources all : List Source) (outputs : Outputs) → IfSome told (λ t. sources ≡ modules_of t.files) → all ≡ with_outputs sources outputs → IfSome told (λ t. all ≡ with_outputs (modules_of t.files) outputs)
@@ -150,21 +151,21 @@ placed-over (Some t) sources all outputs e p = p ∙ ap (λ ss. with_outputs ss 
 
 -- no more than there may be
 pub answers-placed : Laws → (first now : Option Told) (outputs : Outputs) (all : Vec Module) → IfSome first (λ t. StoreComes t.files outputs) → Keeps first now → IfSome now (λ t. map source all.items ≡ with_outputs (modules_of t.files) outputs)
-    → length all.items ≤ module_limit → IfSome first (λ t. AnswersSeen t.files (Ok all))
+    → length all.items ≤ module_limit → IfSome first (λ t. AnswersPreprocessed t.files (Ok all))
 answers-placed laws None now outputs all comes same p few = tt
 answers-placed laws (Some t) now outputs all comes same p few =
     let P : Option Told → Type 0 = λ o. IfSome o (λ u. map source all.items ≡ with_outputs (modules_of u.files) outputs) in
     let are : map source all.items ≡ with_outputs (modules_of t.files) outputs = subst P same p in
-    (seen.seen t.files outputs, is_seen t.files outputs comes, are ∙ seen_by laws t.files outputs comes, few)
+    (seen.seen t.files outputs, is_preprocessed t.files outputs comes, are ∙ seen_by laws t.files outputs comes, few)
 
 -- more than there may be
 pub answers-many : Laws → (first now : Option Told) (outputs : Outputs) (all : Vec Module) (count : ℕ) → IfSome first (λ t. StoreComes t.files outputs) → Keeps first now → IfSome now (λ t. map source all.items ≡ with_outputs (modules_of t.files) outputs)
-    → count ≡ length all.items → module_limit < count → IfSome first (λ t. AnswersSeen t.files (Err (modules.TooMany count)))
+    → count ≡ length all.items → module_limit < count → IfSome first (λ t. AnswersPreprocessed t.files (Err (modules.TooMany count)))
 answers-many laws None now outputs all count comes same p is many = tt
 answers-many laws (Some t) now outputs all count comes same p is many =
     let P : Option Told → Type 0 = λ o. IfSome o (λ u. map source all.items ≡ with_outputs (modules_of u.files) outputs) in
     let are : map source all.items ≡ with_outputs (modules_of t.files) outputs = subst P same p in
-    (seen.seen t.files outputs, is_seen t.files outputs comes, is ∙ sym (length-map all.items source) ∙ ap length (are ∙ seen_by laws t.files outputs comes), many)
+    (seen.seen t.files outputs, is_preprocessed t.files outputs comes, is ∙ sym (length-map all.items source) ∙ ap length (are ∙ seen_by laws t.files outputs comes), many)
 
 -- ---- where there is no C source
 
@@ -172,10 +173,10 @@ pub no-outcomes : (outputs all : List Compiled) (b : Bool) → outputs ≡ all �
 no-outcomes outputs all b same e t = ap (map outcome) (sym same ∙ nil_from_length outputs (eqb-true (length outputs) 0 (sym e ∙ t)))
 
 -- files are seen as they are
-as_they_are : (files : Files) (outputs : Outputs) → StoreComes files outputs → outputs ≡ [] → IsSeen files files
+as_they_are : (files : Files) (outputs : Outputs) → StoreComes files outputs → outputs ≡ [] → IsPreprocessed files files
 as_they_are files outputs comes none = (outputs, comes, sym (ap (seen.seen files) none))
 
-plain_by : (files : Files) (result : Result (Vec Module) ModulesFault) → IsSeen files files → IfOk result (λ all. map source all.items ≡ modules_of files) → AnswersFew (length (names_of_modules files)) result → AnswersSeen files result
+plain_by : (files : Files) (result : Result (Vec Module) ModulesFault) → IsPreprocessed files files → IfOk result (λ all. map source all.items ≡ modules_of files) → AnswersFew (length (names_of_modules files)) result → AnswersPreprocessed files result
 plain_by files (Ok all) is are few =
     let count : length all.items ≡ length (names_of_modules files) = sym (length-map all.items source) ∙ ap length are ∙ sym (length-map (modules_of files) (λ s. s.0)) in
     (files, is, are, subst (λ (n : ℕ). n ≤ module_limit) (sym count) few)
@@ -183,7 +184,7 @@ plain_by files (Err (modules.TooMany count)) is are few = (files, is, few.0 ∙ 
 plain_by files (Err (modules.Store error)) is are few = tt
 
 pub answers-plain : (first now : Option Told) (outputs : Outputs) (result : Result (Vec Module) ModulesFault) → IfSome first (λ t. StoreComes t.files outputs) → outputs ≡ [] → Keeps first now
-    → IfSome now (λ t. IfOk result (λ all. map source all.items ≡ modules_of t.files)) → IfSome now (λ t. AnswersFew (length (names_of_modules t.files)) result) → IfSome first (λ t. AnswersSeen t.files result)
+    → IfSome now (λ t. IfOk result (λ all. map source all.items ≡ modules_of t.files)) → IfSome now (λ t. AnswersFew (length (names_of_modules t.files)) result) → IfSome first (λ t. AnswersPreprocessed t.files result)
 answers-plain None now outputs result comes none same are few = tt
 answers-plain (Some t) now outputs result comes none same are few =
     let P : Option Told → Type 0 = λ x. IfSome x (λ u. IfOk result (λ all. map source all.items ≡ modules_of u.files)) in
@@ -196,7 +197,7 @@ abbrev pub ComeToOne : Type 0
 ComeToOne = (files : Files) (outputs others : Outputs) → StoreComes files outputs → StoreComes files others → outputs ≡ others
 
 pub seen-once : ComeToOne → (files shown other : Files) → IsSeen files shown → IsSeen files other → shown ≡ other
-seen-once one files shown other is are = is.2 ∙ ap (seen.seen files) (one files is.0 are.0 is.1 are.1) ∙ sym are.2
+seen-once one files shown other is are = is.2 ∙ ap (λ (outputs : Outputs). within_bytes files (seen.seen files outputs)) (one files is.0 are.0 is.1 are.1) ∙ sym are.2
 
 abbrev pub Insertion : Type 0
 Insertion = (files : Files) (name bytes other : List ℕ) → other ≢ name → finite.get (finite.insert files name bytes) other ≡ finite.get files other
@@ -206,6 +207,11 @@ seen_beside ins name apart files [] = refl
 seen_beside ins name apart files (o ∷ outputs) =
     seen_beside ins name apart (finite.insert files (text_name o.0) (seen_text o.1)) outputs ∙ ins files (text_name o.0) (seen_text o.1) name (apart o.0)
 
+within_beside : Insertion → (name : List ℕ) → ((m : List ℕ) → name ≢ text_name m) → (b : Bool) (shown : Files) → finite.get (if b then refused shown else shown) name ≡ finite.get shown name
+within_beside ins name apart true shown = ins shown (text_name (first_name (modules_of shown))) refused_text name (apart (first_name (modules_of shown)))
+within_beside ins name apart false shown = refl
+
 -- a file that is no module's text
 pub seen-beside : Insertion → (files shown : Files) (name : List ℕ) → ((m : List ℕ) → name ≢ text_name m) → IsSeen files shown → finite.get shown name ≡ finite.get files name
-seen-beside ins files shown name apart is = ap (λ (f : Files). finite.get f name) is.2 ∙ seen_beside ins name apart files is.0
+seen-beside ins files shown name apart is =
+    ap (λ (f : Files). finite.get f name) is.2 ∙ within_beside ins name apart (is_crowded files) (seen.seen files is.0) ∙ seen_beside ins name apart files is.0

@@ -1,4 +1,6 @@
+pub mod Bytes
 pub mod Headers
+pub mod Named
 pub mod Names
 pub mod Outputs
 pub mod Placing

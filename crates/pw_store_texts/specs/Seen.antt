@@ -7,11 +7,12 @@ use Rattle.std.specs.FinMap as finite
 use Rattle.pw_cpp_sources.specs.Sources.{Texts}
 use Rattle.pw_io.specs.Files.{Files, prefix_of}
 use Rattle.pw_store_modules.specs.FileNames.{text_name}
-use Rattle.pw_store_modules.specs.Modules.{modules_of, stem, text_read}
+use Rattle.pw_store_modules.specs.Modules.{Source, modules_of, stem, text_read}
 use Rattle.pw_store_modules.specs.Views.{source}
 use Rattle.pw_store_modules.specs.declared.few.ModulesFault.{ModulesFault}
 use Rattle.pw_store_modules.specs.declared.few.ModulesFault.TheVariants as modules
 use Rattle.pw_store_modules.specs.declared.modules.Module.{Module}
+use Rattle.pw_store_texts.specs.Bytes.{is_crowded}
 use Rattle.pw_store_texts.specs.Headers.{headers_of}
 use Rattle.pw_store_texts.specs.Names.{is_source_file}
 use Rattle.pw_store_texts.specs.Outputs.{ComesBy, Output, output_of}
@@ -62,13 +63,38 @@ abbrev pub seen : Files → Outputs → Files
 seen files [] = files
 seen files (output ∷ outputs) = seen (finite.insert files (text_name output.0) (seen_text output.1)) outputs
 
+-- the name of the first module; where there is none, one that a module may have
+abbrev pub first_name : List Source → List ℕ
+first_name [] = codes "a"
+first_name (source ∷ sources) = source.0
+
+-- the first module has a text that no module may have
+abbrev pub refused : Files → Files
+refused files = finite.insert files (text_name (first_name (modules_of files))) refused_text
+
+-- Where the texts of files are more bytes than there may be, a build is to refuse the first module, and in the place of that refusal the
+-- bytes are told.
+abbrev pub within_bytes : Files → Files → Files
+within_bytes files shown = if is_crowded files then refused shown else shown
+
+-- the files with what comes of their C sources
+abbrev pub IsPreprocessed : Files → Files → Type 0
+IsPreprocessed files shown = (outputs : Outputs) × StoreComes files outputs × (shown ≡ seen files outputs)
+
 -- these are the files as a build sees them
 abbrev pub IsSeen : Files → Files → Type 0
-IsSeen files shown = (outputs : Outputs) × StoreComes files outputs × (shown ≡ seen files outputs)
+IsSeen files shown = (outputs : Outputs) × StoreComes files outputs × (shown ≡ within_bytes files (seen files outputs))
 
--- What is answered of the modules of files: they are as a build sees them, and no more than there may be; or their count, where there
--- are more; or the store's own answer.
+-- What is answered of the modules of files that are such: they are told, and no more than there may be; or their count, where there are
+-- more; or the store's own answer.
+abbrev pub AnswersOf : (Files → Type 0) → Result (Vec Module) ModulesFault → Type 0
+AnswersOf Are (Ok found) = (shown : Files) × Are shown × (map source found.items ≡ modules_of shown) × (length found.items ≤ module_limit)
+AnswersOf Are (Err (modules.TooMany count)) = (shown : Files) × Are shown × (count ≡ length (modules_of shown)) × (module_limit < count)
+AnswersOf Are (Err (modules.Store error)) = Unit {0}
+
+abbrev pub AnswersPreprocessed : Files → Result (Vec Module) ModulesFault → Type 0
+AnswersPreprocessed files answer = AnswersOf (IsPreprocessed files) answer
+
+-- the same of the files as a build sees them
 abbrev pub AnswersSeen : Files → Result (Vec Module) ModulesFault → Type 0
-AnswersSeen files (Ok found) = (shown : Files) × IsSeen files shown × (map source found.items ≡ modules_of shown) × (length found.items ≤ module_limit)
-AnswersSeen files (Err (modules.TooMany count)) = (shown : Files) × IsSeen files shown × (count ≡ length (modules_of shown)) × (module_limit < count)
-AnswersSeen files (Err (modules.Store error)) = Unit {0}
+AnswersSeen files answer = AnswersOf (IsSeen files) answer

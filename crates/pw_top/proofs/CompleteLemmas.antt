@@ -1,13 +1,14 @@
 -- Where the kept objects are genuine, `build`, `go` and `where` refuse nothing exactly where the modules can be built.
-use Rattle.std.proofs.Common.{◌≡◌, ◌≤◌, ℕ, ◌⊎◌, ⊎_elim, List, Option, Some, None, Result, Ok, Err, refl, sym, subst}
+use Rattle.std.proofs.Common.{◌≡◌, ◌≤◌, ℕ, Bool, true, false, ◌⊎◌, ⊎_elim, List, Option, Some, None, Result, Ok, Err, refl, sym, subst}
 use Rattle.std.specs.Prelude.{◌↔◌, IfSome, IsOk}
 use Rattle.pw_io.specs.Files.{Files, Told}
 use Rattle.pw_store_modules.specs.Modules.{modules_of}
 use Rattle.pw_front_end.specs.declared.refusal.Refusal.{Refusal}
+use Rattle.pw_store_texts.specs.Bytes.{is_crowded}
 use Rattle.pw_store_texts.specs.Headers.{headers_of}
 use Rattle.pw_store_texts.specs.Outputs.{Output}
 use Rattle.pw_store_texts.specs.Seen.{IsSeen}
-use Rattle.pw_commands_cpp.specs.Telling.{TellsBy, TellsOrFails, TellsRefusal, source_at, told_of}
+use Rattle.pw_commands_cpp.specs.Telling.{TellsBy, TellsOrFails, TellsRefusal, TellsWhere, source_at, told_of}
 use Rattle.pw_top_answer.specs.declared.answer.Answer.{Answer}
 use Rattle.pw_top_answer.specs.declared.answer.Answer.TheVariants.{Refused, RefusedSource, Cpp, LinkRefused, ReadFault, WriteFault, StoreFault, NoMemory, BadFile, BadScript}
 use Rattle.pw_top_answer.specs.Outcomes.{IsNoRefusal, RefusesAs}
@@ -105,10 +106,14 @@ told_by_source : (opts : Opts) (files : Files) (name : List ℕ) (refusal : Refu
 told_by_source opts files name refusal None result h p = subst (λ (a : Answer). RefusesExactly files opts a) (sym h) p
 told_by_source opts files name refusal (Some text) result h p = subst (λ (a : Answer). RefusesExactly files opts a) (sym h.2) (told_source opts files name refusal h.0 p)
 
+told_where : (opts : Opts) (files : Files) (name : List ℕ) (refusal : Refusal) (crowded : Bool) (result : Answer) → TellsWhere crowded files name refusal result → RefusesExactly files opts (Refused name refusal) → RefusesExactly files opts result
+told_where opts files name refusal true result h p = subst (λ (a : Answer). RefusesExactly files opts a) (sym h) p
+told_where opts files name refusal false result h p = told_by_source opts files name refusal (source_at files name) result h p
+
 told_refusal : (opts : Opts) (files : Files) (name : List ℕ) (refusal : Refusal) (result : Answer) → TellsRefusal files name refusal result → RefusesExactly files opts (Refused name refusal) → RefusesExactly files opts result
 told_refusal opts files name refusal StoreFault h p = tt
 told_refusal opts files name refusal NoMemory h p = tt
-told_refusal opts files name refusal result h p = told_by_source opts files name refusal (source_at files name) result h p
+told_refusal opts files name refusal result h p = told_where opts files name refusal (is_crowded files) result h p
 
 told_exactly : (opts : Opts) (files : Files) (answer result : Answer) → TellsOrFails files answer result → RefusesExactly files opts answer → RefusesExactly files opts result
 told_exactly opts files (Refused name refusal) result h p = told_refusal opts files name refusal result h p

@@ -10,7 +10,7 @@ use Rattle.pw_store_texts.specs.Names.{source_name}
 use Rattle.pw_store_texts.specs.Seen.{IsSeen}
 use Rattle.pw_top_answer.specs.declared.answer.Answer.{Answer}
 use Rattle.pw_top_answer.specs.declared.answer.Reply.{Reply}
-use Rattle.pw_top_answer.specs.declared.answer.Answer.TheVariants.{Usage, Refused, RefusedSource, Cpp, StoreFault, NoMemory}
+use Rattle.pw_top_answer.specs.declared.answer.Answer.TheVariants.{Usage, Refused, RefusedSource, Cpp, LinkRefused, StoreFault, NoMemory}
 use Rattle.pw_top_answer.specs.Answers.{line_text}
 use Rattle.pw_top_answer.specs.Effects.{PutsFiles}
 use Rattle.pw_top_answer.specs.Outcomes.{InputCount, IsLineDue, LeavesStreams, OutputCount, StoreCount, ToldAs}
@@ -29,7 +29,7 @@ use Rattle.pw_build_opts.specs.declared.opts.Opts.{Opts}
 use Rattle.pw_build_opts.specs.declared.opts.RunOpts.{RunOpts}
 use Rattle.pw_top_words.specs.declared.commands.Command.{Command}
 use Rattle.pw_top_words.specs.declared.commands.Command.TheVariants.{Go, Build as BuildAll, Where, Interp, PhaseOne, Bench}
-use Rattle.pw_top.specs.Answers.{HoldsNoWantOfMemory, IsNoUsage}
+use Rattle.pw_top.specs.Answers.{HoldsNoLinkWant, HoldsNoWantOfMemory, IsNoUsage}
 use Rattle.pw_top.specs.Commands.{BuildsFirst, BuildsWhole}
 use Rattle.pw_top.specs.Does.{DoesAs}
 use Rattle.pw_top.specs.Obeying.{CarriesOut, CarriesOutTold, Outside, outside_of}
@@ -54,6 +54,7 @@ proper_told : (name : List ℕ) (refusal : Refusal) → HoldsNoWantOfMemory (Ref
 proper_told name refusal p (Refused other found) h = subst HoldsNoWant (sym h.1) p
 proper_told name refusal p (RefusedSource other found) h = subst HoldsNoWant (sym h.1) p
 proper_told name refusal p (Cpp fault) h = h
+proper_told name refusal p (LinkRefused fault) h = subst HoldsNoLinkWant (sym h.1) tt
 proper_told name refusal p StoreFault h = tt
 proper_told name refusal p NoMemory h = tt
 proper_told name refusal p _ h = absurd h
@@ -62,6 +63,7 @@ read_told : (before now : ℕ) (name : List ℕ) (refusal : Refusal) → InputCo
 read_told before now name refusal p (Refused other found) h = p
 read_told before now name refusal p (RefusedSource other found) h = p
 read_told before now name refusal p (Cpp fault) h = p
+read_told before now name refusal p (LinkRefused fault) h = p
 read_told before now name refusal p StoreFault h = p
 read_told before now name refusal p NoMemory h = p
 read_told before now name refusal p _ h = absurd h
@@ -70,6 +72,7 @@ write_told : (before now : ℕ) (name : List ℕ) (refusal : Refusal) → Output
 write_told before now name refusal p (Refused other found) h = p
 write_told before now name refusal p (RefusedSource other found) h = p
 write_told before now name refusal p (Cpp fault) h = p
+write_told before now name refusal p (LinkRefused fault) h = p
 write_told before now name refusal p StoreFault h = p
 write_told before now name refusal p NoMemory h = p
 write_told before now name refusal p _ h = absurd h
@@ -78,6 +81,7 @@ streams_told : (i i' o o' : Option (List ℕ)) (name : List ℕ) (refusal : Refu
 streams_told i i' o o' name refusal p (Refused other found) h = p
 streams_told i i' o o' name refusal p (RefusedSource other found) h = p
 streams_told i i' o o' name refusal p (Cpp fault) h = p
+streams_told i i' o o' name refusal p (LinkRefused fault) h = p
 streams_told i i' o o' name refusal p StoreFault h = p
 streams_told i i' o o' name refusal p NoMemory h = tt
 streams_told i i' o o' name refusal p _ h = absurd h
@@ -209,6 +213,7 @@ told_due_of : (sources : List Source) (line : Option ℕ) (name : List ℕ) (ref
 told_due_of sources line name refusal p (Refused other found) h l = l
 told_due_of sources line name refusal p (RefusedSource other found) h l = l
 told_due_of sources line name refusal p (Cpp fault) h l = tt
+told_due_of sources line name refusal p (LinkRefused fault) h l = tt
 told_due_of sources line name refusal p StoreFault h l = tt
 told_due_of sources line name refusal p NoMemory h l = tt
 told_due_of sources line name refusal p _ h l = absurd h

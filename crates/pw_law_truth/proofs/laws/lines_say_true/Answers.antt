@@ -19,13 +19,13 @@ use Rattle.pw_where.specs.declared.shown.Shown.{Shown}
 use Rattle.pw_where.specs.Calls.{of_modules}
 use Rattle.pw_where.specs.Shown.{call_line, shown_of}
 use Rattle.pw_where.specs.Looks.{AreShown, entries_in, name_at}
-use Rattle.pw_law_truth.proofs.Places.{IsKnown, all_known, all_placed}
+use Rattle.pw_law_truth.proofs.Places.{IsKnown, all_known, all_placed, known_there}
 use Rattle.pw_law_truth.proofs.Called.{entry_there, name_is}
-use Rattle.pw_law_truth.proofs.Lines.{all_ordered, all_true, has_lines, has_noted, has_text}
+use Rattle.pw_law_truth.proofs.Lines.{all_ordered, all_true, has_lines, has_noted, has_text, lost_text, not_lost}
 use Rattle.pw_law_truth.proofs.laws.lines_say_true.Goals as goal
 
 pub returns : goal.returns
-returns c = λ p q d functions objects input k budget lines rest f things built located bytes direction places globals defined shows comes.
+returns c = λ p q d functions objects input k budget built located bytes direction places globals defined.
     let image = linked objects q.stack in
     let program = built.implements.program in
     let given : IsGiven q d functions objects = record { program = program; apart = built.names; directives = built.database.directives; serve = built.serve; made = built.made; fits = built.fits } in
@@ -33,29 +33,41 @@ returns c = λ p q d functions objects input k budget lines rest f things built 
     let mapped = c.maps_name_the_program.ensures.functions q d functions objects program built.serve built.made in
     let objects_named = c.maps_name_the_program.ensures.globals q functions objects program built.made in
     let placed = all_placed q functions image built.names named mapped objects_named in
+    let known = all_known q image [] (globals_of q) image.globals refl objects_named placed.globals in
+    let ordered : (shown : List Shown) → AreShown image objects shown → AllByRecursion (IsKnown q image) shown =
+    λ shown are. all_ordered (IsKnown q image) (shown_of (globals_of q) image.globals) shown (subst (λ (gs : List FlowGlobal). IsPermutation (shown_of gs image.globals) shown) built.made.globals are.same) known in
     let lawful = c.linked_addresses_are_lawful.ensures q d functions objects (λ g n. 0) program built.names built.serve built.made built.fits (λ g n. omega arith) in
     let entries = c.linked_programs_have_their_entries.ensures q d functions objects program built.names built.serve built.made built.fits in
     let holds = c.layers_compose.ensures c.selection_keeps_runs.ensures c.linking_keeps_runs.ensures p q d functions objects input built bytes direction places in
-    let n = comes.bound in
-    let log = noted_within (world_of p (frame_in image) q.stack) input n in
-    let noted = has_noted p (frame_in image) q.stack input n (defined n) in
-    let core = shows.state.core in
-    let own = c.calls_are_those_of_the_source.ensures q (entries_in image objects) (map_of q functions image) (image_start image.memory) input (source_stages p (frame_in image) q.stack input) k shows.step n shows.state log f things entries holds.places shows.call noted comes.call in
-    let name : name_at (of_modules objects image.functions) core.front ≡ f =
-    name_is q functions objects core.front own.call.function built.made named lawful mapped placed.functions (entry_there (entries_in image objects) core shows.call.at) own.call.at_address ∙ own.function in
-    let shown = shows.shows in
-    let same : AreShown image objects shown.ordered = shown.shown in
-    let known = all_known q image [] (globals_of q) image.globals refl objects_named placed.globals in
-    let all : AllByRecursion (IsKnown q image) shown.ordered =
-    all_ordered (IsKnown q image) (shown_of (globals_of q) image.globals) shown.ordered (subst (λ (gs : List FlowGlobal). IsPermutation (shown_of gs image.globals) shown.ordered) built.made.globals same.same) known in
-    let t = has_text (call_line k (name_at (of_modules objects image.functions) core.front)) lines shown.values shown.lines_are in
-    let l = has_lines image.functions (map frame_info functions) core shown.ordered shown.values t.text shown.walks t.values_are in
     record {
-      values = l.values;
-      shown = subst (λ (gs : List Shown). AreShown image objects gs) (sym l.of) same;
-      are = t.is ∙ (ap (λ (g : List ℕ). call_line k g ++ t.text) name ∙ ap (λ (text : List ℕ). call_line k f ++ text) l.is);
-      say = all_true p q image (map frame_info functions) core things globals (right_distinct (names_of q) (map (λ (g : FlowGlobal). g.name) (globals_of q)) program.names)
-          (λ number g kind object value w told long small scalar walk.
-          c.values_are_those_of_the_program.ensures p q d functions objects input k shows.step n shows.state log f things number g kind object value w built located bytes direction places defined shows.call noted comes.call told long small scalar walk)
-          l.values (subst (λ (gs : List Shown). AllByRecursion (IsKnown q image) gs) (sym l.of) all) l.walks;
+      lines = λ lines rest f things shows comes.
+          let n = comes.bound in
+          let log = noted_within (world_of p (frame_in image) q.stack) input n in
+          let noted = has_noted p (frame_in image) q.stack input n (defined n) in
+          let core = shows.state.core in
+          let own = c.calls_are_those_of_the_source.ensures q (entries_in image objects) (map_of q functions image) (image_start image.memory) input (source_stages p (frame_in image) q.stack input) k shows.step n shows.state log f things entries holds.places shows.call noted comes.call in
+          let name : name_at (of_modules objects image.functions) core.front ≡ f =
+          name_is q functions objects core.front own.call.function built.made named lawful mapped placed.functions (entry_there (entries_in image objects) core shows.call.at) own.call.at_address ∙ own.function in
+          let shown = shows.shows in
+          let same : AreShown image objects shown.ordered = shown.shown in
+          let all : AllByRecursion (IsKnown q image) shown.ordered = ordered shown.ordered same in
+          let t = has_text (call_line k (name_at (of_modules objects image.functions) core.front)) lines shown.values shown.lines_are in
+          let l = has_lines image.functions (map frame_info functions) core shown.ordered shown.values t.text shown.walks t.values_are in
+          record {
+            values = l.values;
+            shown = subst (λ (gs : List Shown). AreShown image objects gs) (sym l.of) same;
+            are = t.is ∙ (ap (λ (g : List ℕ). call_line k g ++ t.text) name ∙ ap (λ (text : List ℕ). call_line k f ++ text) l.is);
+            say = all_true p q image (map frame_info functions) core things globals (right_distinct (names_of q) (map (λ (g : FlowGlobal). g.name) (globals_of q)) program.names)
+                (λ number g kind object value w told long small scalar walk.
+                c.values_are_those_of_the_program.ensures p q d functions objects input k shows.step shows.state f things number g kind object value w built located bytes direction places defined shows.call own told long small scalar walk)
+                l.values (subst (λ (gs : List Shown). AllByRecursion (IsKnown q image) gs) (sym l.of) all) l.walks;
+          };
+      walks = λ address rest shows.
+          let core = shows.state.core in
+          let shown = shows.shows in
+          let none = lost_text (call_line k (name_at (of_modules objects image.functions) core.front)) shown.values address shown.lines_are in
+          not_lost (IsKnown q image) image.functions (map frame_info functions) core address
+          (λ g is walk. c.walks_are_not_lost.ensures p q d functions objects input k shows.step shows.state is.global g.number.kind g.object address built located bytes direction places defined shows.call
+          (known_there q is.before is.global is.after is.is) is.place walk)
+          shown.ordered shown.values (ordered shown.ordered shown.shown) shown.walks none;
     }

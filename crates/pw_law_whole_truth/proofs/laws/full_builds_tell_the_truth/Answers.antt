@@ -1,11 +1,11 @@
-use Rattle.std.specs.Prelude.{◌≡◌, Ok, List, map}
-use Rattle.std.proofs.Common.{subst, ◌∙◌}
+use Rattle.std.specs.Prelude.{◌≡◌, List, map}
+use Rattle.std.proofs.Common.{subst, sym, ◌∙◌}
 use Rattle.pw_debug.specs.declared.info.FrameInfo.{FrameInfo}
 use Rattle.pw_debug_frames.specs.Frames.{frame_info}
 use Rattle.pw_run_languages.specs.Programs.{functions_of}
-use Rattle.pw_where.specs.Looks.{ShowsAt}
 use Rattle.pw_law_selection.proofs.Given.{function_valid}
 use Rattle.pw_law_layers.specs.Whole.{IsBuilt, image_of}
+use Rattle.pw_law_truth.specs.Truth.{ShowsTruth}
 use Rattle.pw_law_whole.specs.Programs.{flow_of, flows_in, functions_under}
 use Rattle.pw_law_whole_truth.proofs.Globals.{forms_globals, lowered_globals}
 use Rattle.pw_law_whole_truth.proofs.Places.{all_located}
@@ -13,7 +13,7 @@ use Rattle.pw_law_whole_truth.proofs.Texts.{made_of}
 use Rattle.pw_law_whole_truth.proofs.laws.full_builds_tell_the_truth.Goals as goal
 
 pub returns : goal.returns
-returns c = λ texts opts parts p frames k budget input lines rest f things build of_texts plain few least most are bytes defined shows comes.
+returns c = λ texts opts parts p frames k budget input build of_texts plain few least most are bytes defined.
     let whole = c.full_builds_are_whole.ensures texts opts parts p build of_texts plain few least most in
     let a = whole.analysed c.lowering_keeps_runs.ensures in
     let q = flows_in whole.forms parts opts.stack in
@@ -29,5 +29,5 @@ returns c = λ texts opts parts p frames k budget input lines rest f things buil
     let globals = forms_globals opts.optimise (map flow_of p.modules) whole.forms whole.of_program ∙ lowered_globals p.modules in
     let made = made_of c.phase_one_is_exact.ensures c.optimised_forms_are_one.ensures texts opts parts p whole.forms build of_texts whole.of_program in
     let known : frames ≡ map frame_info functions = c.built_objects_have_their_frames.ensures db whole.forms parts.objects parts.fresh frames s.database made are in
-    c.lines_say_true.ensures p q db functions parts.objects input k budget lines rest f things built located bytes direction places globals defined
-    (subst (λ (fs : List FrameInfo). ShowsAt (image_of parts.objects opts.stack) parts.objects fs k budget input (Ok lines) rest) known shows) comes
+    subst (λ (fs : List FrameInfo). ShowsTruth p (image_of parts.objects opts.stack) parts.objects fs opts.stack k budget input) (sym known)
+    (c.lines_say_true.ensures p q db functions parts.objects input k budget built located bytes direction places globals defined)

@@ -1,19 +1,12 @@
-use Rattle.std.proofs.Common.{map, arith}
-use Rattle.pw_store_texts.specs.Seen.{outcome}
-use Rattle.pw_store_texts.proofs.SeenLemmas.{answers-many, answers-placed, answers-plain, no-outcomes}
+use Rattle.pw_store_texts.proofs.CrowdLemmas.{answers-within, many-within}
 use Rattle.pw_store_texts.proofs.modules.seen_modules.Goals as goal
 
-pub returns-then-is_empty-clause-seen : goal.returns-then-is_empty-clause-seen
-returns-then-is_empty-clause-seen g c =
-    answers-plain (g.S.Store.told c.args.store.now) _ (map outcome c.in_ok-outputs.outputs.items) c.read_modules.result c.in_ok-outputs.ensures.comes
-    (no-outcomes c.as_slice.result.now c.in_ok-outputs.outputs.items c.is_empty.result c.as_slice.ensures.value c.is_empty.ensures c.if-is_empty.true) c.in_ok-outputs.ensures.same c.read_modules.ensures.read c.read_modules.ensures.few
+pub returns-in_ok-modules_within-in-Ok-clause-seen : goal.returns-in_ok-modules_within-in-Ok-clause-seen
+returns-in_ok-modules_within-in-Ok-clause-seen g c =
+    answers-within (record { laws = record { exact = c.modules_are_exact.ensures.exact; inserted = c.other_files.ensures.inserted; insertion = c.other_files.ensures.insertion }; keys = c.names.ensures.exact })
+    (g.S.Store.told c.args.store.now) _ c.in-Ok.modules c.in_ok-modules_within-in-Ok.field-0 c.in-Ok.ensures.modules c.preprocessed_modules.ensures.same c.in_ok-modules_within-in-Ok.ensures.within
 
-pub returns-clause-seen : goal.returns-clause-seen
-returns-clause-seen g c =
-    answers-placed (record { exact = c.modules_are_exact.ensures.exact; inserted = c.other_files.ensures.inserted; insertion = c.other_files.ensures.insertion }) (g.S.Store.told c.args.store.now) _ (map outcome c.in_ok-outputs.outputs.items) c.in_ok-all.all
-    c.in_ok-outputs.ensures.comes c.in_ok-outputs.ensures.same c.in_ok-all.ensures.placed (omega arith)
-
-pub returns-then-count-gt-MODULE_LIMIT-clause-seen : goal.returns-then-count-gt-MODULE_LIMIT-clause-seen
-returns-then-count-gt-MODULE_LIMIT-clause-seen g c =
-    answers-many (record { exact = c.modules_are_exact.ensures.exact; inserted = c.other_files.ensures.inserted; insertion = c.other_files.ensures.insertion }) (g.S.Store.told c.args.store.now) _ (map outcome c.in_ok-outputs.outputs.items) c.in_ok-all.all _
-    c.in_ok-outputs.ensures.comes c.in_ok-outputs.ensures.same c.in_ok-all.ensures.placed (omega arith) (omega arith)
+pub returns-in-Err-clause-seen : goal.returns-in-Err-clause-seen
+returns-in-Err-clause-seen g c =
+    many-within (record { laws = record { exact = c.modules_are_exact.ensures.exact; inserted = c.other_files.ensures.inserted; insertion = c.other_files.ensures.insertion }; keys = c.names.ensures.exact })
+    (g.S.Store.told c.args.store.now) c.in-Err.fault c.in-Err.ensures.modules
