@@ -56,7 +56,7 @@ ending_of name = ap (λ (n : ℕ). drop n (source_name name)) (two_less name) �
 long : (n : ℕ) → 2 ≤ n → nat_le 2 n ≡ true
 long n h = grind (arith, nat_tests)
 
-is_source : (name : List ℕ) → is_module_name name ≡ true → is_source_file (source_name name) ≡ true
+pub is_source : (name : List ℕ) → is_module_name name ≡ true → is_source_file (source_name name) ≡ true
 is_source name named =
     all_true _ _ _
     (long (length (source_name name)) (omega (arith, size name)))

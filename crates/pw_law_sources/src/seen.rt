@@ -10,6 +10,7 @@ ghost use Rattle.pw_build_files.specs.Outcomes.{AreBuilt};
 ghost use Rattle.pw_law_sources.specs.Sources.{EachComes};
 
 use pw_io::laws::{names, other_files};
+use pw_store_modules::modules_are_exact;
 use pw_store_texts::{built_files_are_seen, texts_are_not_built};
 
 /// The files of a store are seen exactly where each of its C sources comes to an output or to a fault of the preprocessor.
@@ -25,6 +26,7 @@ pub fn what_builds_put_is_seen()
     ensures all { (told seen : Told) (puts : List NamedFile) → IsSeen told.files seen.files → AreBuilt puts → IsSeen (after_puts told puts).files (after_puts seen puts).files }
 {
     other_files();
+    modules_are_exact();
     texts_are_not_built();
     built_files_are_seen();
 }

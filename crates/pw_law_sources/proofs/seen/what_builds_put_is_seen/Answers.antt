@@ -8,6 +8,7 @@ returns-clause-one c = put_seen (record {
   no_object = c.texts_are_not_built.ensures.object;
   no_database = c.texts_are_not_built.ensures.database;
   no_image = c.texts_are_not_built.ensures.image;
+  exact = c.modules_are_exact.ensures.exact;
   beside = record { object = c.built_files_are_seen.ensures.object; database = c.built_files_are_seen.ensures.database; image = c.built_files_are_seen.ensures.image };
 })
 
@@ -18,5 +19,6 @@ returns-clause-all c = all_seen (record {
   no_object = c.texts_are_not_built.ensures.object;
   no_database = c.texts_are_not_built.ensures.database;
   no_image = c.texts_are_not_built.ensures.image;
+  exact = c.modules_are_exact.ensures.exact;
   beside = record { object = c.built_files_are_seen.ensures.object; database = c.built_files_are_seen.ensures.database; image = c.built_files_are_seen.ensures.image };
 })
