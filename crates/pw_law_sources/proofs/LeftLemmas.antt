@@ -138,7 +138,7 @@ again_left puts nothing told opts outcome (shown, is, (parts, builds, o)) fits =
 
 -- ---- an edit
 
-flows_by : List (List ℕ × Phase) → Result (List FlowModule) BuildFault
+abbrev flows_by : List (List ℕ × Phase) → Result (List FlowModule) BuildFault
 flows_by [] = Ok []
 flows_by (p ∷ ps) = before_others p.0 p.1 (flows_by ps)
 

@@ -1,5 +1,5 @@
 -- The text in the place of a fault has no tokens.
-use Rattle.std.proofs.Common.{◌≡◌, ℕ, ◌≤◌, List, length, Result, Err, refl, ap, ◌∙◌, arith}
+use Rattle.std.proofs.Common.{◌≡◌, ℕ, ◌≤◌, List, length, Err, refl, ap, ◌∙◌, arith}
 use Rattle.pw_token.specs.Pieces.{longest_at, token_at, piece_at}
 use Rattle.pw_token.specs.Scanning.{integer_suffix_len, digits_len, integer_len, exponent_len, fraction_len, scaled_len, floating_len, literal_len, wide_len, comment_len}
 use Rattle.pw_token.specs.Words.{keyword_of, mark_of, is_keyword, is_mark}
