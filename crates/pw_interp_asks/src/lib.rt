@@ -5,3 +5,6 @@ mod asks;
 mod names;
 
 pub use asks::ask;
+pub use names::{
+    function, function_place, global, global_place, local, own_place, string, string_place,
+};

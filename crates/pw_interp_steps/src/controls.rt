@@ -1,14 +1,14 @@
 //! Steps that stay in the call of the function that runs.
 
 ghost use Rattle.std.specs.Prelude.{◌≡◌, MatchOption, true};
-ghost use Rattle.pw_typed.specs.Views.{view_exprs};
+ghost use Rattle.pw_typed.specs.Views.{view_expr, view_exprs};
 ghost use Rattle.pw_cmean.specs.Evaluation as meaning;
 ghost use Rattle.pw_cmean.specs.SourceRun as runs;
 ghost use Rattle.pw_cmean.specs.Worlds as worlds;
 ghost use Rattle.pw_interp_state.specs.Shown.{Shown, view_state};
 ghost use Rattle.pw_interp_calls.specs.Answers.{Answers};
 ghost use Rattle.pw_interp_calls.specs.Views.{view_env};
-ghost use Rattle.pw_interp_todo.specs.Asking.{asked_act};
+ghost use Rattle.pw_interp_todo.specs.Asking.{answered, asked_act};
 ghost use Rattle.pw_interp_todo.specs.Flows.{view_flow};
 ghost use Rattle.pw_interp_todo.specs.Going.{remainder_act, use_act};
 ghost use Rattle.pw_interp_todo.specs.Operands as operands;
@@ -26,6 +26,7 @@ use crate::settling::given;
 use pw_interp_acts::used;
 use pw_interp_asks::ask;
 use pw_interp_calls::{Ending, Stop};
+use pw_interp_direct::{answer_of, is_direct};
 use pw_interp_flows::{begin, remainder, use_value};
 use pw_interp_functions::end_parameters;
 use pw_interp_operands::behind;
@@ -35,8 +36,42 @@ use pw_typed::TExpr;
 use pw_value::Value;
 use std::alloc::Global;
 
+/// How deep the nodes of an expression may stand that is evaluated in one step.
+const DIRECT_DEPTH: u32 = 12;
+
 /// What is asked.
 pub fn ask_step<'a>(
+    alloc: Global,
+    call: &mut Call<'a>,
+    state: &mut State,
+    asked: Asked<'a>,
+) -> Result<Control<'a>, Stop<'a>>
+    ensures { StepsCall call.old (λ rest. then_gave (asked_act asked.entry (view_env call.old.env) call.old.bound) rest (view_env call.old.env) call.old.bound) (view_state state.old) result call.new (view_state state.new) }
+{
+    match asked {
+        Asked::Answer(e) => answer_step(alloc, call, state, e),
+        Asked::Place(_) => lead_step(alloc, call, state, asked),
+    }
+}
+
+/// The result of an expression is asked: that of a small one is evaluated at once.
+fn answer_step<'a>(
+    alloc: Global,
+    call: &mut Call<'a>,
+    state: &mut State,
+    e: &'a TExpr,
+) -> Result<Control<'a>, Stop<'a>>
+    ensures { StepsCall call.old (λ rest. then_gave (answered (view_expr e.now) (view_env call.old.env) call.old.bound) rest (view_env call.old.env) call.old.bound) (view_state state.old) result call.new (view_state state.new) }
+{
+    if is_direct(e, DIRECT_DEPTH) {
+        given(answer_of(alloc, &call.env, state, e))
+    } else {
+        lead_step(alloc, call, state, Asked::Answer(e))
+    }
+}
+
+/// What is asked, of which what is evaluated first comes first.
+fn lead_step<'a>(
     alloc: Global,
     call: &mut Call<'a>,
     state: &State,
