@@ -42,13 +42,18 @@ fn take_value<'a>(
 }
 
 /// A part of a statement left something: the last that the call has left to do takes it.
-fn take_flow<'a>(machine: &mut Machine<'a>, state: &mut State, flow: Flow) -> Result<(), Stop<'a>>
+fn take_flow<'a>(
+    alloc: Global,
+    machine: &mut Machine<'a>,
+    state: &mut State,
+    flow: Flow,
+) -> Result<(), Stop<'a>>
     ensures { (main : worlds.Body) → StepsAt main (view_env machine.old.call.env).world machine.old.call machine.old.callers.items
         (λ rest. rest (view_env machine.old.call.env) machine.old.call.bound (spec.Flowed (view_flow flow))) (view_state state.old) result machine.new (view_state state.new) }
 {
     match machine.call.todo.pop() {
         Some(first) => {
-            let answer = flowed_step(&mut machine.call, state, first, flow);
+            let answer = flowed_step(alloc, &mut machine.call, state, first, flow);
             settle(machine, answer)
         }
         None => Err(Stop::Ended(Ending::Wrong)),
@@ -79,7 +84,7 @@ pub fn step<'a>(
             settle(machine, answer)
         }
         Control::Gave(given) => take_value(alloc, machine, state, main, given),
-        Control::Flowed(flow) => take_flow(machine, state, flow),
+        Control::Flowed(flow) => take_flow(alloc, machine, state, flow),
         Control::Listed => call_listed(alloc, machine, state),
         Control::Outside(_) => unreachable!(),
     }

@@ -10,7 +10,7 @@ ghost use Rattle.pw_interp_calls.specs.Answers.{Answers};
 ghost use Rattle.pw_interp_calls.specs.Views.{view_env};
 ghost use Rattle.pw_interp_todo.specs.Asking.{answered, asked_act};
 ghost use Rattle.pw_interp_todo.specs.Flows.{view_flow};
-ghost use Rattle.pw_interp_todo.specs.Going.{remainder_act, use_act};
+ghost use Rattle.pw_interp_todo.specs.Going.{going_act, remainder_act, use_act};
 ghost use Rattle.pw_interp_todo.specs.Operands as operands;
 ghost use Rattle.pw_interp_todo.specs.Parts.{doing_act};
 ghost use Rattle.pw_interp_todo.specs.Resuming as spec;
@@ -31,7 +31,7 @@ use pw_interp_flows::{begin, remainder, use_value};
 use pw_interp_functions::end_parameters;
 use pw_interp_operands::behind;
 use pw_interp_state::State;
-use pw_interp_todo::{Asked, Control, Doing, Flow, Operand, Part, Remainder, Todo, Use};
+use pw_interp_todo::{Asked, Control, Doing, Flow, Going, Operand, Part, Remainder, Todo, Use};
 use pw_typed::TExpr;
 use pw_value::Value;
 use std::alloc::Global;
@@ -106,7 +106,7 @@ fn begin_step<'a>(
     ensures { StepsCall call.old (λ rest. then_flowed (doing_act what.entry (view_env call.old.env) call.old.bound) rest (view_env call.old.env) bound) (view_state state.old) result call.new (view_state state.new) }
 {
     let going = begin(alloc, &call.env, state, what)?;
-    push_going(&mut call.todo, &mut call.bound, going, bound)
+    go_on(alloc, call, state, going, bound)
 }
 
 /// A part of a statement.
@@ -169,17 +169,89 @@ fn value_step<'a>(
     push_going(&mut call.todo, &mut call.bound, going, bound)
 }
 
+/// The value of a small expression is evaluated at once, and the statement goes on with it.
+fn use_direct<'a>(
+    alloc: Global,
+    call: &mut Call<'a>,
+    state: &mut State,
+    e: &'a TExpr,
+    what: Use<'a>,
+    bound: u64,
+) -> Result<Control<'a>, Stop<'a>>
+    ensures { StepsCall call.old (λ rest. then_flowed (going_act (Going.Ask (Asked.Answer e.entry) what.entry) (view_env call.old.env) call.old.bound) rest (view_env call.old.env) bound) (view_state state.old) result call.new (view_state state.new) }
+{
+    let given = answer_of(alloc, &call.env, state, e)?;
+    value_step(alloc, call, state, what, bound, given)
+}
+
+/// A statement asks for the value of an expression.
+fn use_answer<'a>(
+    alloc: Global,
+    call: &mut Call<'a>,
+    state: &mut State,
+    e: &'a TExpr,
+    what: Use<'a>,
+    bound: u64,
+) -> Result<Control<'a>, Stop<'a>>
+    ensures { StepsCall call.old (λ rest. then_flowed (going_act (Going.Ask (Asked.Answer e.entry) what.entry) (view_env call.old.env) call.old.bound) rest (view_env call.old.env) bound) (view_state state.old) result call.new (view_state state.new) }
+{
+    if is_direct(e, DIRECT_DEPTH) {
+        use_direct(alloc, call, state, e, what, bound)
+    } else {
+        let going = Going::Ask(Asked::Answer(e), what);
+        push_going(&mut call.todo, &mut call.bound, going, bound)
+    }
+}
+
+/// A statement asks for something of an expression.
+fn use_asked<'a>(
+    alloc: Global,
+    call: &mut Call<'a>,
+    state: &mut State,
+    asked: Asked<'a>,
+    what: Use<'a>,
+    bound: u64,
+) -> Result<Control<'a>, Stop<'a>>
+    ensures { StepsCall call.old (λ rest. then_flowed (going_act (Going.Ask asked.entry what.entry) (view_env call.old.env) call.old.bound) rest (view_env call.old.env) bound) (view_state state.old) result call.new (view_state state.new) }
+{
+    match asked {
+        Asked::Answer(e) => use_answer(alloc, call, state, e, what, bound),
+        Asked::Place(_) => {
+            let going = Going::Ask(asked, what);
+            push_going(&mut call.todo, &mut call.bound, going, bound)
+        }
+    }
+}
+
+/// What is left of a statement, behind which the run goes on with a bound.
+fn go_on<'a>(
+    alloc: Global,
+    call: &mut Call<'a>,
+    state: &mut State,
+    going: Going<'a>,
+    bound: u64,
+) -> Result<Control<'a>, Stop<'a>>
+    ensures { StepsCall call.old (λ rest. then_flowed (going_act going.entry (view_env call.old.env) call.old.bound) rest (view_env call.old.env) bound) (view_state state.old) result call.new (view_state state.new) }
+{
+    match going {
+        Going::Ask(asked, what) => use_asked(alloc, call, state, asked, what, bound),
+        _ => push_going(&mut call.todo, &mut call.bound, going, bound),
+    }
+}
+
 /// A part of a statement left this.
 fn flow_step<'a>(
+    alloc: Global,
     call: &mut Call<'a>,
+    state: &mut State,
     what: Remainder<'a>,
     bound: u64,
     flow: Flow,
 ) -> Result<Control<'a>, Stop<'a>>
-    ensures { (w : Shown) → StepsCall call.old (λ rest. then_flowed (remainder_act what.entry (view_env call.old.env) call.old.bound (view_flow flow)) rest (view_env call.old.env) bound) w result call.new w }
+    ensures { StepsCall call.old (λ rest. then_flowed (remainder_act what.entry (view_env call.old.env) call.old.bound (view_flow flow)) rest (view_env call.old.env) bound) (view_state state.old) result call.new (view_state state.new) }
 {
     let going = remainder(what, flow);
-    push_going(&mut call.todo, &mut call.bound, going, bound)
+    go_on(alloc, call, state, going, bound)
 }
 
 /// What a function's body leaves is its result: its end returns none (ISO C90 6.6.6.4).
@@ -230,6 +302,7 @@ pub fn gave_step<'a>(
 
 /// A part of a statement left something, which the last of the list takes.
 pub fn flowed_step<'a>(
+    alloc: Global,
     call: &mut Call<'a>,
     state: &mut State,
     first: Todo<'a>,
@@ -238,7 +311,7 @@ pub fn flowed_step<'a>(
     ensures { StepsCall call.old (λ rest. spec.after first.entry rest (view_env call.old.env) call.old.bound (spec.Flowed (view_flow flow))) (view_state state.old) result call.new (view_state state.new) }
 {
     match first {
-        Todo::Flow { what, bound } => flow_step(call, what, bound, flow),
+        Todo::Flow { what, bound } => flow_step(alloc, call, state, what, bound, flow),
         Todo::EndLocal {
             local,
             number,

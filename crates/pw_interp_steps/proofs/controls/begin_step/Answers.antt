@@ -1,6 +1,5 @@
 use Rattle.std.proofs.Common.{rules, refl}
 use Rattle.pw_interp_calls.specs.Views.{view_env}
-use Rattle.pw_interp_state.specs.Shown.{view_state}
 use Rattle.pw_interp_todo.specs.Resuming.{Flowed, resume}
 use Rattle.pw_interp_todo.proofs.LeadLaws.{followed, in_front}
 use Rattle.pw_interp_steps.proofs.Stopping.{goes_by, stops_by, stops_on}
@@ -17,7 +16,7 @@ returns c =
     let call = c.args.call.now in
     let e = view_env call.env in
     record {
-      steps = λ rest. followed (in_front (λ flow. resume call.todo.items rest e c.args.bound (Flowed flow)) (goes_by (c.begin.ensures call.bound) c.in_ok-going.was)) (c.push_going.ensures e rest (view_state c.begin.new.state));
-      room = refl;
-      stands = refl;
+      steps = λ rest. followed (in_front (λ flow. resume call.todo.items rest e c.args.bound (Flowed flow)) (goes_by (c.begin.ensures call.bound) c.in_ok-going.was)) (c.go_on.ensures.steps rest);
+      room = c.go_on.ensures.room;
+      stands = c.go_on.ensures.stands;
     }

@@ -11,7 +11,7 @@ pub returns-in-Flow : goal.returns-in-Flow
 unfolding after on_flow on_list on_value
 returns-in-Flow c =
     let call = c.args.call.now in
-    call_named (λ rest. ap (λ k. after k rest (view_env call.env) call.bound (Flowed (view_flow c.args.flow))) c.in-Flow.is) (c.flow_step.ensures (view_state c.args.state.now))
+    call_named (λ rest. ap (λ k. after k rest (view_env call.env) call.bound (Flowed (view_flow c.args.flow))) c.in-Flow.is) c.flow_step.ensures
 
 pub returns-in-Returned : goal.returns-in-Returned
 unfolding after on_flow on_list on_value
