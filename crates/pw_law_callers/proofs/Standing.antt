@@ -1,5 +1,5 @@
 -- Active functions, one behind another, in the memory of the machine.
-use Rattle.std.specs.Prelude.{ℕ, zero, suc, ◌≡◌, ◌≢◌, pos, ◌+◌, ◌-◌, ◌*◌, ◌^◌, ◌≤◌, ◌+ℤ◌, Bool, true, false, Option, Some, List, [], ◌∷◌, ◌++◌, map, Contains, bytes_eq}
+use Rattle.std.specs.Prelude.{ℕ, zero, suc, ◌≡◌, ◌≢◌, pos, ◌+◌, ◌-◌, ◌*◌, ◌^◌, ◌≤◌, ◌+ℤ◌, Bool, true, false, Some, List, [], ◌∷◌, ◌++◌, map, Contains, bytes_eq}
 use Rattle.std.specs.List.{AllByRecursion, flat_map}
 use Rattle.std.proofs.Common.{arith, subst, sym, ap, refl, ◌∙◌}
 use Rattle.std.proofs.lemmas.Slice.Eq.{bytes_eq-Decides}
@@ -8,11 +8,11 @@ use Rattle.pw_value.specs.ProgramNames.{start_name}
 use Rattle.pw_alloc.specs.Frames.{below, head_size, link_place}
 use Rattle.pw_alloc.specs.ValidPlaces.{IsLocated}
 use Rattle.pw_machine.specs.Core.{Core, byte_at, register, word_at}
-use Rattle.pw_machine.specs.Run.{State, Running, run_of}
+use Rattle.pw_machine.specs.Run.{run_of}
 use Rattle.pw_run_languages.specs.Acts as lines
 use Rattle.pw_run_languages.specs.Acts.{number_at}
 use Rattle.pw_run_languages.specs.Links.{LinksStand}
-use Rattle.pw_run_languages.specs.LineRun.{LineFn, Frame, Machine, active, enters, function_named, name_of, return_address}
+use Rattle.pw_run_languages.specs.LineRun.{LineFn, Frame, Machine, active, function_named, name_of, return_address}
 use Rattle.pw_run_languages.specs.MachineRun.{active_as}
 use Rattle.pw_run_languages.specs.Standing.{Active}
 use Rattle.pw_debug.specs.Holding.{frame_at}

@@ -1,5 +1,5 @@
 -- The k-th call in the run of lines, and the machine at its step.
-use Rattle.std.specs.Prelude.{ℕ, zero, suc, ◌≡◌, ◌+◌, ◌-◌, ◌*◌, ◌≤◌, ◌<◌, ◌==◌, ◌&&◌, ◌⊎◌, not, Bool, true, false, Option, Some, None, List, [], ◌∷◌, ◌++◌, length}
+use Rattle.std.specs.Prelude.{ℕ, zero, suc, ◌≡◌, ◌+◌, ◌-◌, ◌≤◌, ◌<◌, ◌==◌, ◌&&◌, ◌⊎◌, not, Bool, true, false, Option, Some, None, List, [], ◌∷◌, ◌++◌, length}
 use Rattle.std.specs.List.{AllByRecursion, list_any}
 use Rattle.std.proofs.Common.{arith, inl, inr, subst, sym, ap, refl, ◌∙◌}
 use Rattle.std.proofs.Math.Nat.{add-zero, add-suc}
@@ -9,7 +9,6 @@ use Rattle.pw_value.specs.ProgramNames.{start_name}
 use Rattle.pw_machine.specs.declared.ends.End.{End}
 use Rattle.pw_machine.specs.Run.{State, Progress, Running, Stopped as Halted, run_of, continued}
 use Rattle.pw_delay.specs.declared.items.Item.{Item}
-use Rattle.pw_delay.specs.Placement.{sizes}
 use Rattle.pw_run_languages.specs.Traces.{is_of_source}
 use Rattle.pw_run_languages.specs.LineRun.{LineFn, LineProgram, Machine, Step, On, Stopped, Astray, and_then, function_named, enters, step, steps, start}
 use Rattle.pw_run_languages.specs.Addresses.{Addresses}

@@ -2,7 +2,7 @@
 use Rattle.std.specs.Prelude.{ℕ, ◌≡◌, ◌+◌, ◌==◌, ◌&&◌, ◌⊎◌, nat_lt, Bool, true, false, if◌then◌else◌, Option, Some, None, List, [], ◌∷◌, ◌++◌, count_by}
 use Rattle.std.specs.List.{flat_map, AllByRecursion}
 use Rattle.std.specs.Str.{bytes_eq}
-use Rattle.std.proofs.Common.{arith, cond, inl, inr, subst, sym, ap, refl, ◌∙◌}
+use Rattle.std.proofs.Common.{arith, inl, inr, subst, sym, ap, refl, ◌∙◌}
 use Rattle.std.proofs.lemmas.Bool.{eqb-true}
 use Rattle.std.proofs.lemmas.List.Concat.{flat_map-cons}
 use Rattle.pw_value.specs.ProgramNames.{exit_name, getchar_name, putchar_name}
@@ -29,7 +29,7 @@ use Rattle.pw_law_link_run.specs.Simulating.{IsFit}
 use Rattle.pw_law_link_run.proofs.Slots.{slot_by, slot_runs}
 use Rattle.pw_law_link_run.proofs.Calls.{after_return}
 use Rattle.pw_law_link_run.proofs.Entering.{called_by, calls_are, calls_astray}
-use Rattle.pw_law_entered.specs.Entered.{first_call, HasEntered, EntersAs}
+use Rattle.pw_law_entered.specs.Entered.{first_call, EntersAs}
 
 abbrev pub Events : Type 0
 Events = List (Event ℕ ℕ)

@@ -1,5 +1,5 @@
 -- The placed run, step by step: the functions that are active have room on the stack.
-use Rattle.std.proofs.Common.{◌≡◌, ℕ, zero, suc, ◌+◌, ◌-◌, ◌%◌, ◌^◌, ◌≤◌, ◌==◌, ◌||◌, nat_lt, Bool, true, false, if◌then◌else◌, List, [], ◌∷◌, ◌++◌, length, map, refl, sym, ap, subst, ◌∙◌, arith}
+use Rattle.std.proofs.Common.{◌≡◌, ℕ, zero, suc, ◌+◌, ◌-◌, ◌%◌, ◌^◌, ◌≤◌, ◌==◌, ◌||◌, Bool, true, false, if◌then◌else◌, List, [], ◌∷◌, ◌++◌, length, map, refl, sym, ap, subst, arith}
 use Rattle.std.specs.Prelude.{Option, Some, None, Contains, slice_get}
 use Rattle.std.specs.List.{sum_by}
 use Rattle.std.proofs.lemmas.Bool.{ltb-false}
@@ -7,7 +7,7 @@ use Rattle.std.proofs.lemmas.List.Sums.{sum_by-cons}
 use Rattle.pw_value.specs.declared.value.Kind.{Kind}
 use Rattle.pw_value.specs.declared.value.Value.{Value}
 use Rattle.pw_value.specs.declared.value.Value.TheVariants.{Undefined, Num, Null, At, Piece}
-use Rattle.pw_value.specs.ProgramNames.{start_name, exit_name, getchar_name, putchar_name, library_functions}
+use Rattle.pw_value.specs.ProgramNames.{start_name, getchar_name, putchar_name, library_functions}
 use Rattle.pw_value.specs.Objects.{Object}
 use Rattle.pw_db.specs.declared.database.Web.{Web}
 use Rattle.pw_flow.specs.declared.flow.End.{End}
@@ -21,14 +21,14 @@ use Rattle.pw_run_languages.specs.Traces.{Called, Loaded, Notes, Refused, Return
 use Rattle.pw_run_languages.specs.Traffic.{active}
 use Rattle.pw_run_languages.specs.Values.{binary, is_somewhere}
 use Rattle.pw_run_languages.specs.Memory.{look, poke, copy}
-use Rattle.pw_run_languages.specs.Programs.{Program, Library, GetChar, PutChar, Exit, NoneForLibrary, library_at, start_objects}
+use Rattle.pw_run_languages.specs.Programs.{Program, Library, GetChar, PutChar, Exit, NoneForLibrary, library_at}
 use Rattle.pw_run_languages.specs.LawfulPrograms.{StartFits}
 use Rattle.pw_run_languages.specs.Commands as command
 use Rattle.pw_run_languages.specs.FlowRun.{get_global, put_global, end_from}
 use Rattle.pw_run_languages.specs.Direction.{with_functions}
 use Rattle.pw_run_languages.specs.PlacedRun.{PlacedProgram, Frame, Machine, Step, On, Stopped, Astray, name_of, function_named, with_register, with_registers, kept, register_at, value_in, with_temp, gives, takes_result, counted, noted, depth, globals_now, is_eligible, noted_if, loads_global, stores_global, is_reserved, changes, exceeds, library_call, library_return, without_scratch, gives_back, calls_library, entered_webs, and_then, enters_webs, leaves, leaves_webs, with_parameters, entered, first_block, begins, calls_defined, jumps, branches, given_back, ends, obeys, does, step, steps, start, staged, placed_run}
 use Rattle.pw_law_select_known.specs.Laws.{ActiveCallsAreNoted}
-use Rattle.pw_law_room.specs.Room.{HadRoom, HasRoom, names_active}
+use Rattle.pw_law_room.specs.Room.{HadRoom, names_active}
 use Rattle.pw_law_room.proofs.Names.{Roomy, names_event, room_called, room_event, room_returned}
 use Rattle.pw_law_room.proofs.Parts.{choose, put_by, stored_by, reads_by, loaded_by, calls_by, goes_to, to_block_by, result_by, returns_by, next_by, begun_at, starts_at_by, starts_by}
 

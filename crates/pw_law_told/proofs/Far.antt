@@ -1,16 +1,14 @@
 -- How far the runs between source and machine come, and that return addresses stand there.
-use Rattle.std.specs.Prelude.{ℕ, suc, ◌≡◌, ◌≤◌, ◌<◌, List}
-use Rattle.std.proofs.Common.{arith, subst, sym, refl}
-use Rattle.pw_value.specs.declared.value.Value.{Value}
-use Rattle.pw_value.specs.declared.value.Byte.{Byte}
+use Rattle.std.specs.Prelude.{ℕ, suc, ◌≤◌, List}
+use Rattle.std.proofs.Common.{arith, subst, sym}
 use Rattle.pw_db.specs.declared.database.Directives.{Directives}
 use Rattle.pw_alloc.specs.declared.located.Located.{Located}
 use Rattle.pw_cmean.specs.Worlds as source
-use Rattle.pw_cmean.specs.Acts.{Moment, Undefined, StackFull, Exit, Bound, Wrong as WrongEnd, Outcome, Gives, Ends}
+use Rattle.pw_cmean.specs.Acts.{Undefined, StackFull, Exit, Bound, Wrong as WrongEnd, Outcome, Gives, Ends}
 use Rattle.pw_cmean.specs.SourceRun.{run_main, seen, source_run, start_state}
 use Rattle.pw_run.specs.Runs.{Going, Met, Over, Refines, Same, Stage, Wrong}
 use Rattle.pw_run_agreement.specs.Agreement.{IsMeaningful}
-use Rattle.pw_run_languages.specs.Traces.{Event, EventAlike, calls_alone, calls_of, shown_by}
+use Rattle.pw_run_languages.specs.Traces.{EventAlike, calls_alone, calls_of, shown_by}
 use Rattle.pw_run_languages.specs.Meeting.{MetIn}
 use Rattle.pw_run_languages.specs.Programs.{Program}
 use Rattle.pw_run_languages.specs.FlowRun.{flow_run}
@@ -21,7 +19,7 @@ use Rattle.pw_run_languages.specs.LineRun.{Step, On, Stopped, Astray, line_run, 
 use Rattle.pw_run_languages.specs.LineRun as lines
 use Rattle.pw_run_languages.specs.Links.{HaveLinks}
 use Rattle.pw_run_languages.specs.PlacementLaws.{DirectionKeeps, PlacesKeep}
-use Rattle.pw_run_languages.specs.SelectionLaws.{PlacementKeeps, SelectionKeeps, line_program, placed_program}
+use Rattle.pw_run_languages.specs.SelectionLaws.{PlacementKeeps, SelectionKeeps, placed_program}
 use Rattle.pw_law_source.specs.Source.{end_of, source_runs, source_stages, staged}
 use Rattle.pw_law_source.specs.Lowering.{MomentKept}
 use Rattle.pw_law_entered.specs.Entered.{HasPassed}

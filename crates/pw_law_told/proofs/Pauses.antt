@@ -1,16 +1,15 @@
 -- The k-th call of a program is one, whatever the bound and the room on the stack.
-use Rattle.std.specs.Prelude.{ℕ, zero, suc, ◌≡◌, ◌+◌, ◌≤◌, nat_lt, Bool, true, false, List, [], ◌∷◌, ◌++◌}
-use Rattle.std.proofs.Common.{arith, sym, ap, refl, ◌∙◌, append_assoc, inl, inr}
-use Rattle.std.proofs.lemmas.Bool.{cases_lt, ltb-true}
+use Rattle.std.specs.Prelude.{ℕ, ◌≡◌, ◌+◌, ◌≤◌, nat_lt, Bool, true, false, List, [], ◌∷◌, ◌++◌}
+use Rattle.std.proofs.Common.{arith, sym, ap, refl, ◌∙◌, append_assoc}
+use Rattle.std.proofs.lemmas.Bool.{ltb-true}
 use Rattle.pw_value.specs.Objects.{Object as Thing}
 use Rattle.pw_cmean.specs.Worlds.{Program, World, depth}
-use Rattle.pw_cmean.specs.Acts.{Moment, Called, Returned, Undefined, StackFull, Exit, Bound, Wrong, Outcome, Gives, Ends}
+use Rattle.pw_cmean.specs.Acts.{Moment, Called, Undefined, StackFull, Exit, Bound, Wrong, Outcome, Gives, Ends}
 use Rattle.pw_cmean.specs.Lasting.{state_behind}
 use Rattle.pw_cmean.specs.SourceRun.{run_main, start_state}
 use Rattle.pw_law_source.specs.Source.{source_stages, staged}
-use Rattle.pw_where.specs.Calls.{one_if}
 use Rattle.pw_law_pause.specs.Moments.{HasRoom, IsOlder, noted_within, with_stack}
-use Rattle.pw_law_calls.specs.Calls.{HasNoted, IsSourceCall, calls_among, is_call}
+use Rattle.pw_law_calls.specs.Calls.{HasNoted, IsSourceCall, calls_among}
 use Rattle.pw_law_told.specs.Told.{IsPause, world_of}
 
 -- ---- the k-th call of a log

@@ -1,5 +1,5 @@
 -- The function that the debugger names at a call is the one that is called.
-use Rattle.std.proofs.Common.{◌≡◌, ℕ, zero, suc, ◌==◌, ◌&&◌, ◌||◌, Bool, true, false, cond, Option, Some, None, List, [], ◌∷◌, ◌++◌, map, length, take, refl, sym, ap, subst, ◌∙◌, arith, inl, inr}
+use Rattle.std.proofs.Common.{◌≡◌, ℕ, zero, suc, ◌==◌, ◌&&◌, ◌||◌, Bool, true, false, cond, Option, Some, List, [], ◌∷◌, ◌++◌, map, length, take, refl, sym, ap, subst, ◌∙◌, arith, inl, inr}
 use Rattle.std.specs.Prelude.{Contains, filter, find, not}
 use Rattle.std.specs.Option.{option_map_or}
 use Rattle.std.specs.List.{AllByRecursion, list_any}
@@ -14,7 +14,6 @@ use Rattle.pw_alloc.specs.declared.located.Located.{Located}
 use Rattle.pw_object.specs.declared.object.Object.{Object}
 use Rattle.pw_link.specs.FromMilli.Library.{routines}
 use Rattle.pw_link.specs.Linking.{linked}
-use Rattle.pw_image.specs.declared.image.Image.{Image}
 use Rattle.pw_image.specs.declared.image.Function.{Function}
 use Rattle.pw_machine.specs.Core.{Core}
 use Rattle.pw_run_languages.specs.Programs.{Program, functions_of, names_of}

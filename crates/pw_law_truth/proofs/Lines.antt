@@ -1,5 +1,5 @@
 -- The lines of values, one by one, and that each says true.
-use Rattle.std.proofs.Common.{◌≡◌, ℕ, Bool, List, [], ◌∷◌, ◌++◌, map, length, Option, Some, refl, sym, ap, subst, ◌∙◌}
+use Rattle.std.proofs.Common.{◌≡◌, ℕ, List, [], ◌∷◌, ◌++◌, map, length, Option, Some, refl, sym, ap, subst, ◌∙◌}
 use Rattle.std.specs.Prelude.{Result, Ok, Err}
 use Rattle.std.specs.List.{AllByRecursion}
 use Rattle.std.specs.List.Sorted.{IsPermutation}
@@ -10,7 +10,6 @@ use Rattle.pw_value.specs.Objects.{Object as Thing, object_at}
 use Rattle.pw_value.specs.declared.value.Value.TheVariants.{Num}
 use Rattle.pw_value.specs.declared.value.Kind.{Kind}
 use Rattle.pw_files.proofs.Standing.{contains_by, each_by}
-use Rattle.pw_types.specs.declared.kind.IntKind.{IntKind}
 use Rattle.pw_types.specs.TypeTrees.{CType, is_volatile}
 use Rattle.pw_types.specs.TypedTrees.{GlobalValue}
 use Rattle.pw_types.specs.Shapes.{letter_of_kind, marked, shape_of}
@@ -38,7 +37,7 @@ use Rattle.pw_where.specs.Looks.{Values, behind, lost_of, no_more, value_of}
 use Rattle.pw_law_pause.specs.Moments.{noted_within}
 use Rattle.pw_law_calls.specs.Calls.{HasNoted, IsSmall}
 use Rattle.pw_law_told.specs.Told.{IsTold, world_of}
-use Rattle.pw_law_truth.specs.Truth.{IsInteger, IsTrue, IsValue, SaysTrue, definitions_of, lowered_definition, lines_of}
+use Rattle.pw_law_truth.specs.Truth.{SaysTrue, definitions_of, lowered_definition, lines_of}
 use Rattle.pw_law_truth.proofs.Numbers.{kind_width, number_of, scalar_is, shape_number}
 use Rattle.pw_law_truth.proofs.Places.{IsKnown, same_place}
 

@@ -1,16 +1,12 @@
 -- The globals of a program, by their places in the list of all, and where the map of its image has them.
-use Rattle.std.proofs.Common.{◌≡◌, ◌≢◌, ℕ, suc, Bool, true, false, if◌then◌else◌, List, [], ◌∷◌, ◌++◌, map, length, take, Option, Some, None, refl, sym, ap, subst, ◌∙◌, append_assoc, arith}
+use Rattle.std.proofs.Common.{◌≡◌, ◌≢◌, ℕ, suc, Bool, true, false, if◌then◌else◌, List, [], ◌∷◌, ◌++◌, map, length, Option, Some, None, refl, sym, ap, subst, ◌∙◌, append_assoc, arith}
 use Rattle.std.specs.Prelude.{Contains, unwrap_or}
 use Rattle.std.specs.List.{AllByRecursion}
-use Rattle.std.specs.Map.{lookup}
-use Rattle.std.specs.Str.{bytes_eq}
 use Rattle.std.proofs.lemmas.List.{append-nil, map-append}
 use Rattle.std.proofs.lemmas.List.Elements.{Contains-append_right}
 use Rattle.pw_flow.specs.ValidFlow.{AreDistinct}
 use Rattle.pw_flow.specs.declared.flow.FlowGlobal.{FlowGlobal}
-use Rattle.pw_db.specs.declared.database.Directives.{Directives}
 use Rattle.pw_alloc.specs.declared.located.Located.{Located}
-use Rattle.pw_object.specs.declared.object.Object.{Object}
 use Rattle.pw_link.specs.FromMilli.Library.{routines}
 use Rattle.pw_image.specs.declared.image.Image.{Image}
 use Rattle.pw_image.specs.declared.image.Function.{Function}
@@ -18,7 +14,7 @@ use Rattle.pw_image.specs.declared.image.GlobalObject.{GlobalObject}
 use Rattle.pw_run_languages.specs.Programs.{Program, functions_of, globals_of}
 use Rattle.pw_run_languages.specs.LinkingLaws.{AreNamesApart, address_of}
 use Rattle.pw_law_linked.proofs.Entries.{IsEntry, entries_found, names_in}
-use Rattle.pw_law_linked.proofs.Own.{Differ, both_all, joined_distinct, left_distinct, names_are, right_all, right_distinct, text_distinct}
+use Rattle.pw_law_linked.proofs.Own.{Differ, both_all, joined_distinct, names_are, right_all, right_distinct, text_distinct}
 use Rattle.pw_where.specs.declared.numbers.Number.{Number}
 use Rattle.pw_where.specs.declared.shown.Shown.{Shown}
 use Rattle.pw_where.specs.Shown.{is_hidden, number_of_shape, shown_as, shown_of, shown_one}

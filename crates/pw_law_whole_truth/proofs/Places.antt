@@ -1,5 +1,5 @@
 -- The places that allocation gives the functions of a lawful program are lawful.
-use Rattle.std.proofs.Common.{◌≡◌, ℕ, List, [], ◌∷◌, map, refl, inl, inr}
+use Rattle.std.proofs.Common.{ℕ, List, [], ◌∷◌, map, refl, inl, inr}
 use Rattle.std.specs.List.{AllByRecursion}
 use Rattle.pw_files.proofs.Standing.{Has}
 use Rattle.pw_db.specs.declared.database.Directives.{Directives}

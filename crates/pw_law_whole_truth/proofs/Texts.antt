@@ -5,7 +5,6 @@ use Rattle.std.specs.FinMap as finite
 use Rattle.pw_value.specs.declared.fault.LinkFault.{LinkFault}
 use Rattle.pw_flow.specs.declared.flow.FlowModule.{FlowModule}
 use Rattle.pw_lower.specs.Modules.{lowered}
-use Rattle.pw_object.specs.declared.object.Object.{Object}
 use Rattle.pw_store_modules.specs.Modules.{Source, Texts}
 use Rattle.pw_build_opts.specs.declared.opts.Opts.{Opts}
 use Rattle.pw_build_objects.specs.Programs.{AreObjectsFrom, Completes, Parts}

@@ -1,14 +1,13 @@
-use Rattle.std.specs.Prelude.{ℕ, suc, ◌≡◌, ◌+◌, ◌%◌, ◌≤◌, List, map}
-use Rattle.std.specs.List.{AllByRecursion, flat_map, sum_by}
+use Rattle.std.specs.Prelude.{ℕ, suc, ◌≡◌, ◌%◌, List, map}
+use Rattle.std.specs.List.{AllByRecursion, flat_map}
 use Rattle.std.proofs.Common.{arith, subst, sym, ap, refl, ◌∙◌}
-use Rattle.pw_value.specs.Limits.{memory_size}
 use Rattle.pw_files.proofs.Standing.{contains_by, each_by}
 use Rattle.pw_machine.specs.Core.{Core}
 use Rattle.pw_machine.specs.Start.{image_start}
 use Rattle.pw_link.specs.Linking.{linked}
 use Rattle.pw_run_languages.specs.Calls.{FollowsCalls}
 use Rattle.pw_run_languages.specs.LawfulPrograms.{graph_of}
-use Rattle.pw_run_languages.specs.LineRun.{Frame, LineFn}
+use Rattle.pw_run_languages.specs.LineRun.{LineFn}
 use Rattle.pw_run_languages.specs.LinkingLaws.{frame_in, map_of}
 use Rattle.pw_run_languages.specs.MachineRun.{Call, Map, active_as, noted}
 use Rattle.pw_run_languages.specs.Standing.{Active}

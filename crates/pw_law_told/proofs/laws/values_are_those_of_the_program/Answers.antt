@@ -1,4 +1,4 @@
-use Rattle.std.specs.Prelude.{List, map}
+use Rattle.std.specs.Prelude.{map}
 use Rattle.std.specs.List.{flat_map}
 use Rattle.pw_value.specs.Objects.{object_at}
 use Rattle.pw_machine.specs.Core.{byte_at, register}

@@ -1,4 +1,4 @@
-use Rattle.std.specs.Prelude.{List, map}
+use Rattle.std.specs.Prelude.{map}
 use Rattle.std.specs.List.{flat_map}
 use Rattle.pw_link.specs.Linking.{linked}
 use Rattle.pw_run_languages.specs.LinkingLaws.{map_of}

@@ -2,7 +2,6 @@ use Rattle.std.specs.Prelude.{ℕ, ◌≡◌, ◌++◌, [], List, map}
 use Rattle.std.specs.List.{AllByRecursion}
 use Rattle.std.specs.List.Sorted.{IsPermutation}
 use Rattle.std.proofs.Common.{arith, subst, sym, ap, refl, ◌∙◌}
-use Rattle.pw_flow.specs.ValidFlow.{AreDistinct}
 use Rattle.pw_flow.specs.declared.flow.FlowGlobal.{FlowGlobal}
 use Rattle.pw_machine.specs.Start.{image_start}
 use Rattle.pw_link.specs.Linking.{linked}

@@ -1,0 +1,4 @@
+pub mod Stages
+pub mod Stops
+pub mod Noted
+pub mod Free
