@@ -8,6 +8,7 @@ ghost use Rattle.pw_cmean.specs.Worlds as worlds;
 ghost use Rattle.pw_interp_state.specs.Shown.{Shown, view_state};
 ghost use Rattle.pw_interp_calls.specs.Answers.{Answers};
 ghost use Rattle.pw_interp_calls.specs.Views.{view_env};
+ghost use Rattle.pw_interp_direct.specs.Direct.{IsDirect};
 ghost use Rattle.pw_interp_todo.specs.Asking.{answered, asked_act};
 ghost use Rattle.pw_interp_todo.specs.Flows.{view_flow};
 ghost use Rattle.pw_interp_todo.specs.Going.{going_act, remainder_act, use_act};
@@ -178,6 +179,7 @@ fn use_direct<'a>(
     what: Use<'a>,
     bound: u64,
 ) -> Result<Control<'a>, Stop<'a>>
+    requires { IsDirect (view_expr e.now) }
     ensures { StepsCall call.old (λ rest. then_flowed (going_act (Going.Ask (Asked.Answer e.entry) what.entry) (view_env call.old.env) call.old.bound) rest (view_env call.old.env) bound) (view_state state.old) result call.new (view_state state.new) }
 {
     let given = answer_of(alloc, &call.env, state, e)?;
