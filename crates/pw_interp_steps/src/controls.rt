@@ -180,7 +180,7 @@ fn use_direct<'a>(
     what: Use<'a>,
     bound: u64,
 ) -> Result<Control<'a>, Stop<'a>>
-    ensures { StepsCall call.old (λ rest. then_flowed (going_act (Going.Ask (Asked.Answer e) what.entry) (view_env call.old.env) call.old.bound) rest (view_env call.old.env) bound) (view_state state.old) result call.new (view_state state.new) }
+    ensures { StepsCall call.old (λ rest. then_flowed (going_act (Going.Ask (Asked.Answer e.entry) what.entry) (view_env call.old.env) call.old.bound) rest (view_env call.old.env) bound) (view_state state.old) result call.new (view_state state.new) }
 {
     let given = answer_of(alloc, &call.env, state, e)?;
     value_step(alloc, call, state, what, bound, given)
@@ -195,13 +195,33 @@ fn use_answer<'a>(
     what: Use<'a>,
     bound: u64,
 ) -> Result<Control<'a>, Stop<'a>>
-    ensures { StepsCall call.old (λ rest. then_flowed (going_act (Going.Ask (Asked.Answer e) what.entry) (view_env call.old.env) call.old.bound) rest (view_env call.old.env) bound) (view_state state.old) result call.new (view_state state.new) }
+    ensures { StepsCall call.old (λ rest. then_flowed (going_act (Going.Ask (Asked.Answer e.entry) what.entry) (view_env call.old.env) call.old.bound) rest (view_env call.old.env) bound) (view_state state.old) result call.new (view_state state.new) }
 {
     if is_direct(e, DIRECT_DEPTH) {
         use_direct(alloc, call, state, e, what, bound)
     } else {
         let going = Going::Ask(Asked::Answer(e), what);
         push_going(&mut call.todo, &mut call.bound, going, bound)
+    }
+}
+
+/// A statement asks for something of an expression.
+fn use_asked<'a>(
+    alloc: Global,
+    call: &mut Call<'a>,
+    state: &mut State,
+    asked: Asked<'a>,
+    what: Use<'a>,
+    bound: u64,
+) -> Result<Control<'a>, Stop<'a>>
+    ensures { StepsCall call.old (λ rest. then_flowed (going_act (Going.Ask asked.entry what.entry) (view_env call.old.env) call.old.bound) rest (view_env call.old.env) bound) (view_state state.old) result call.new (view_state state.new) }
+{
+    match asked {
+        Asked::Answer(e) => use_answer(alloc, call, state, e, what, bound),
+        Asked::Place(_) => {
+            let going = Going::Ask(asked, what);
+            push_going(&mut call.todo, &mut call.bound, going, bound)
+        }
     }
 }
 
@@ -216,7 +236,7 @@ fn go_on<'a>(
     ensures { StepsCall call.old (λ rest. then_flowed (going_act going.entry (view_env call.old.env) call.old.bound) rest (view_env call.old.env) bound) (view_state state.old) result call.new (view_state state.new) }
 {
     match going {
-        Going::Ask(Asked::Answer(e), what) => use_answer(alloc, call, state, e, what, bound),
+        Going::Ask(asked, what) => use_asked(alloc, call, state, asked, what, bound),
         _ => push_going(&mut call.todo, &mut call.bound, going, bound),
     }
 }
