@@ -5,3 +5,4 @@ pub mod MoveLemmas
 pub mod AccessLaws
 pub mod OperatorLaws
 pub mod RunLaws
+mod WordLemmas

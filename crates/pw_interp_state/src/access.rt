@@ -1,7 +1,8 @@
 //! Reading scalars, and what an access is where it has no meaning.
 
-ghost use Rattle.std.specs.Prelude.{◌≡◌, ◌%◌, ◌==◌, ℕ, true, not, take};
-ghost use Rattle.pw_value.specs.Values.{IsWidth};
+ghost use Rattle.std.specs.Prelude.{◌≡◌, ◌<◌, ◌^◌, ◌%◌, ◌==◌, ℕ, true, not, take, Some, Ok, IfSome};
+ghost use Rattle.pw_value.specs.Objects.{byte_at, bytes_from};
+ghost use Rattle.pw_value.specs.Values.{IsWidth, number_in};
 ghost use Rattle.std.specs.List.{list_any};
 ghost use Rattle.pw_cmean.specs.Undefined.{least};
 ghost use Rattle.pw_cmean.specs.Access as meaning;
@@ -14,6 +15,7 @@ use crate::fault::{Fault, judge};
 use crate::findings::when;
 use crate::objects::Objects;
 use pw_cmean::Undef;
+use pw_types::IntKind;
 use pw_value::{Byte, Pointer, Value, decode, decode_pointer};
 
 /// Whether an offset is no multiple of an alignment.
@@ -119,9 +121,10 @@ fn reading(objects: &Objects, category: Category, place: Value) -> Option<Undef>
     )
 }
 
-/// Reads a scalar of the category at a place.
+/// Reads a scalar of the category at a place, by what its bytes are.
 #[tactic(auto, using(crate::proofs::ByteLemmas::first_of_four))]
-pub fn load(objects: &Objects, category: Category, place: Value) -> Result<Value, Fault>
+#[inline(never)]
+fn load_bytes(objects: &Objects, category: Category, place: Value) -> Result<Value, Fault>
     ensures { result ≡ spec.loaded objects.now category place }
 {
     judge(reading(objects, category, place))?;
@@ -130,6 +133,68 @@ pub fn load(objects: &Objects, category: Category, place: Value) -> Result<Value
             Ok(value_in(category, four_from(objects.bytes(number), offset)))
         }
         _ => Err(Fault::Wrong),
+    }
+}
+
+/// The number that a byte at an offset is.
+fn number_at(bytes: &[Byte], offset: usize) -> Option<u8>
+    ensures { IfSome result (λ n. byte_at bytes.now offset ≡ Byte.Num n) }
+{
+    match bytes.get(offset) {
+        Some(Byte::Num(n)) => Some(*n),
+        _ => None,
+    }
+}
+
+/// The word that four numbers from an offset on are, the first of them worth most.
+#[tactic(auto, using(crate::proofs::WordLemmas::four_write))]
+fn word_at(bytes: &[Byte], offset: u32) -> Option<u32>
+    ensures word { IfSome result (λ n. number_in (bytes_from 4 offset bytes.now) ≡ Some n) }
+    ensures range { IfSome result (λ n. n < 2 ^ 32) }
+{
+    let offset = offset as usize;
+    let first = number_at(bytes, offset)?;
+    let second = number_at(bytes, offset + 1)?;
+    let third = number_at(bytes, offset + 2)?;
+    let fourth = number_at(bytes, offset + 3)?;
+    let high = u32::from(first) * 16777216 + u32::from(second) * 65536;
+    Some(high + u32::from(third) * 256 + u32::from(fourth))
+}
+
+/// The word that an integer of four bytes at an offset of an object is, where the read has a meaning.
+#[tactic(auto, using(crate::proofs::WordLemmas::word_loaded))]
+fn word_inside(objects: &Objects, kind: IntKind, number: u128, offset: u32) -> Option<u32>
+    ensures { IfSome result (λ n. spec.loaded objects.now (Category.Int kind) (Value.At (Pointer.Object number offset)) ≡ Ok (Value.Num n)) }
+{
+    let bytes = objects.bytes(number);
+    if kind.size() != 4 || offset % 4 != 0 {
+        return None;
+    }
+    if !objects.is_live(number) || !is_inside(4, offset, bytes) {
+        return None;
+    }
+    word_at(bytes, offset)
+}
+
+/// The word that an integer of four bytes at a place is, where the read has a meaning; None where the bytes are to tell.
+fn word_in(objects: &Objects, category: Category, place: Value) -> Option<u32>
+    ensures { IfSome result (λ n. spec.loaded objects.now category place ≡ Ok (Value.Num n)) }
+{
+    match (category, place) {
+        (Category::Int(kind), Value::At(Pointer::Object(number, offset))) => {
+            word_inside(objects, kind, number, offset)
+        }
+        _ => None,
+    }
+}
+
+/// Reads a scalar of the category at a place.
+pub fn load(objects: &Objects, category: Category, place: Value) -> Result<Value, Fault>
+    ensures { result ≡ spec.loaded objects.now category place }
+{
+    match word_in(objects, category, place) {
+        Some(word) => Ok(Value::Num(word)),
+        None => load_bytes(objects, category, place),
     }
 }
 

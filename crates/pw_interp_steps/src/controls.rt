@@ -31,9 +31,7 @@ use pw_interp_flows::{begin, remainder, use_value};
 use pw_interp_functions::end_parameters;
 use pw_interp_operands::behind;
 use pw_interp_state::State;
-use pw_interp_todo::{
-    Asked, Control, Doing, Flow, Going, Operand, Part, Remainder, Todo, Use,
-};
+use pw_interp_todo::{Asked, Control, Doing, Flow, Going, Operand, Part, Remainder, Todo, Use};
 use pw_typed::TExpr;
 use pw_value::Value;
 use std::alloc::Global;
