@@ -97,6 +97,7 @@ fn operand<'a>(
 
 /// A unary operator.
 #[cycle(direct)]
+#[inline(never)]
 fn unary<'a>(
     alloc: Global,
     env: &Env<'a>,
@@ -159,6 +160,7 @@ fn assign<'a>(
 
 /// An operator with `=`, which works in a type. The old value is read before the right operand is evaluated.
 #[cycle(direct)]
+#[inline(never)]
 fn compound<'a>(
     alloc: Global,
     env: &Env<'a>,
@@ -234,6 +236,7 @@ fn placed<'a>(
 
 /// The place of a member.
 #[cycle(direct)]
+#[inline(never)]
 fn member_place<'a>(
     alloc: Global,
     env: &Env<'a>,
@@ -250,6 +253,7 @@ fn member_place<'a>(
 
 /// The value of a member.
 #[cycle(direct)]
+#[inline(never)]
 fn member<'a>(
     alloc: Global,
     env: &Env<'a>,
