@@ -65,6 +65,7 @@ pub fn string<'a>(
 }
 
 /// The value of a local.
+#[inline(always)]
 pub fn local<'a>(
     env: &Env<'a>,
     state: &State,

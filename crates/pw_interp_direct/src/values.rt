@@ -100,6 +100,7 @@ fn operand<'a>(
 
 /// A unary operator.
 #[cycle(direct)]
+#[inline(never)]
 fn unary<'a>(
     alloc: Global,
     env: &Env<'a>,
@@ -167,6 +168,7 @@ fn assign<'a>(
 
 /// An operator with `=`, which works in a type. The old value is read before the right operand is evaluated.
 #[cycle(direct)]
+#[inline(never)]
 fn compound<'a>(
     alloc: Global,
     env: &Env<'a>,
@@ -247,6 +249,7 @@ fn placed<'a>(
 
 /// The place of a member.
 #[cycle(direct)]
+#[inline(never)]
 fn member_place<'a>(
     alloc: Global,
     env: &Env<'a>,
@@ -264,6 +267,7 @@ fn member_place<'a>(
 
 /// The value of a member.
 #[cycle(direct)]
+#[inline(never)]
 fn member<'a>(
     alloc: Global,
     env: &Env<'a>,

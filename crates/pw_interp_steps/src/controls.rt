@@ -72,6 +72,7 @@ fn answer_step<'a>(
 }
 
 /// What is asked, of which what is evaluated first comes first.
+#[inline(never)]
 fn lead_step<'a>(
     alloc: Global,
     call: &mut Call<'a>,
@@ -96,6 +97,7 @@ fn locals_of(part: Part) -> Option<u32>
 }
 
 /// A part of a statement whose locals have their objects.
+#[inline(always)]
 fn begin_step<'a>(
     alloc: Global,
     call: &mut Call<'a>,
@@ -127,6 +129,7 @@ pub fn do_step<'a>(
 }
 
 /// An operand gave this.
+#[inline(never)]
 fn operand_step<'a>(
     alloc: Global,
     call: &mut Call<'a>,
@@ -142,6 +145,7 @@ fn operand_step<'a>(
 }
 
 /// An argument gave this: it is held, and those behind it follow.
+#[inline(never)]
 fn argument_step<'a>(
     call: &mut Call<'a>,
     args: &'a [TExpr],
@@ -156,6 +160,7 @@ fn argument_step<'a>(
 }
 
 /// The value of an expression of a statement.
+#[inline(always)]
 fn value_step<'a>(
     alloc: Global,
     call: &mut Call<'a>,
@@ -171,6 +176,7 @@ fn value_step<'a>(
 }
 
 /// The value of a small expression is evaluated at once, and the statement goes on with it.
+#[inline(always)]
 fn use_direct<'a>(
     alloc: Global,
     call: &mut Call<'a>,
@@ -187,6 +193,7 @@ fn use_direct<'a>(
 }
 
 /// A statement asks for the value of an expression.
+#[inline(always)]
 fn use_answer<'a>(
     alloc: Global,
     call: &mut Call<'a>,
@@ -206,6 +213,7 @@ fn use_answer<'a>(
 }
 
 /// A statement asks for something of an expression.
+#[inline(always)]
 fn use_asked<'a>(
     alloc: Global,
     call: &mut Call<'a>,
@@ -226,6 +234,7 @@ fn use_asked<'a>(
 }
 
 /// What is left of a statement, behind which the run goes on with a bound.
+#[inline(always)]
 fn go_on<'a>(
     alloc: Global,
     call: &mut Call<'a>,
@@ -242,6 +251,7 @@ fn go_on<'a>(
 }
 
 /// A part of a statement left this.
+#[inline(always)]
 fn flow_step<'a>(
     alloc: Global,
     call: &mut Call<'a>,
@@ -336,6 +346,7 @@ pub fn flowed_step<'a>(
 }
 
 /// The arguments of a call that are left.
+#[inline(never)]
 pub fn arguments_step<'a>(
     call: &mut Call<'a>,
     args: &'a [TExpr],
