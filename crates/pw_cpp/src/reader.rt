@@ -37,7 +37,7 @@ pub struct Reader<'a> {
     pub size: usize,
 }
 
-/// Want of memory.
+/// The fault of memory that was refused, at a place of the source.
 pub fn no_memory(place: usize) -> Fault
     ensures { result ≡ fault CppKind.NoMemory place }
 {
@@ -55,14 +55,14 @@ pub fn bytes_before(bytes: &[u8], count: usize) -> &[u8]
     }
 }
 
-/// The bytes from a place on.
+/// What is left of some bytes from offset `at` on: none, where it is past the end.
 pub fn bytes_from(bytes: &[u8], at: usize) -> &[u8]
     ensures { result.now ≡ drop at bytes.now }
 {
     if at < bytes.len() { &bytes[at..] } else { &[] }
 }
 
-/// The bytes of a name.
+/// The bytes of a name that stands at a span of a text, as far as the text goes.
 pub fn name_in(text: &[u8], name: Span) -> &[u8]
     ensures { result.now ≡ name_of text.now name }
 {

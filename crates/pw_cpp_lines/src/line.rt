@@ -35,7 +35,7 @@ impl From<AllocError> for LineFault {
     }
 }
 
-/// Whether a line ends at a place.
+/// Whether a line ends at offset `at` of a text: a newline stands there, or the text is over.
 pub fn is_line_end(text: &[u8], at: usize) -> bool
     ensures { result ≡ is_line_end text.now at }
 {

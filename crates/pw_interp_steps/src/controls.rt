@@ -35,7 +35,8 @@ use pw_typed::TExpr;
 use pw_value::Value;
 use std::alloc::Global;
 
-/// What is asked.
+/// One step where a value or a place is asked: what is left of it goes onto the call's list of what is to be done. A
+/// stop tells why the run ends.
 pub fn ask_step<'a>(
     alloc: Global,
     call: &mut Call<'a>,

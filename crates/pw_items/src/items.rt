@@ -32,14 +32,14 @@ impl<T> Items<T> {
         }
     }
 
-    /// The items of a `Vec`.
+    /// A list of the items that a `Vec` holds, in order; nothing is copied.
     pub fn from_vec(items: Vec<T>) -> Items<T>
         ensures { result ≡ items.items }
     {
         Items { items }
     }
 
-    /// The items as a `Vec`.
+    /// The `Vec` that holds the items, in order; nothing is copied.
     pub fn into_vec(self) -> Vec<T>
         ensures { result.items ≡ self }
     {

@@ -130,7 +130,8 @@ pub fn lower_globals(
     Ok(globals)
 }
 
-/// What a module declares.
+/// The names with external linkage that a module declares or defines (C90 6.1.2.2), in order, each with the shape of
+/// its type. Fails only for want of memory.
 pub fn lower_declared(
     alloc: Global,
     types: &Types,
