@@ -1,7 +1,7 @@
 use Rattle.std.proofs.lemmas.Result.{err_from_is_err_and}
 use Rattle.pw_fields.proofs.FieldLoops.{repeat_goes_on, repeat_ends, repeat_is_done}
-use Rattle.pw_summary_file.specs.Reading.{uses_at}
-use Rattle.pw_summary_file.proofs.reading.read_all_uses.Goals as goal
+use Rattle.pw_summary_parts.specs.Reading.{uses_at}
+use Rattle.pw_summary_parts.proofs.reading.read_all_uses.Goals as goal
 
 pub returns-in_err-uses : goal.returns-in_err-uses
 returns-in_err-uses c =

@@ -3,8 +3,8 @@ use Rattle.std.specs.List.{flat_map}
 use Rattle.std.specs.Prelude.{Option, Bool}
 use Rattle.pw_value.specs.declared.value.Kind.{Kind}
 use Rattle.pw_fields.specs.Fields.{FitsText}
-use Rattle.pw_summary_file.specs.Spelling.{global}
-use Rattle.pw_summary_file.proofs.writing.push_global_items.Given as goal
+use Rattle.pw_summary_parts.specs.Spelling.{global}
+use Rattle.pw_summary_parts.proofs.writing.push_global_items.Given as goal
 
 abbrev pub invariant-loop-global : goal.invariant-loop-global
 invariant-loop-global l = record {

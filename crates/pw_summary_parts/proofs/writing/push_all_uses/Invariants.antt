@@ -1,8 +1,8 @@
 use Rattle.std.proofs.Common.{◌≡◌, ◌++◌, take, ◌<◌, get_or, ℕ}
 use Rattle.std.specs.List.{flat_map}
 use Rattle.pw_summary.specs.declared.summary.Uses.{Uses}
-use Rattle.pw_summary_file.specs.Spelling.{uses, FitsUses}
-use Rattle.pw_summary_file.proofs.writing.push_all_uses.Given as goal
+use Rattle.pw_summary_parts.specs.Spelling.{uses, FitsUses}
+use Rattle.pw_summary_parts.proofs.writing.push_all_uses.Given as goal
 
 abbrev pub invariant-loop-uses : goal.invariant-loop-uses
 invariant-loop-uses l = record {

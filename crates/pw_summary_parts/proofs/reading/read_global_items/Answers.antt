@@ -2,8 +2,8 @@ use Rattle.std.specs.Prelude.{option_map}
 use Rattle.std.proofs.lemmas.Result.{err_from_is_err_and}
 use Rattle.pw_fields.proofs.FieldLoops.{goes_on, ends, is_done}
 use Rattle.pw_files.specs.Rising.{next_key}
-use Rattle.pw_summary_file.specs.Reading.{global_at}
-use Rattle.pw_summary_file.proofs.reading.read_global_items.Goals as goal
+use Rattle.pw_summary_parts.specs.Reading.{global_at}
+use Rattle.pw_summary_parts.proofs.reading.read_global_items.Goals as goal
 
 pub returns-in_err-name : goal.returns-in_err-name
 returns-in_err-name c =
