@@ -5,7 +5,7 @@ ghost use Rattle.std.specs.List.{list_all};
 ghost use Rattle.pw_fields.specs.Fields.{items_at};
 ghost use Rattle.pw_fields.specs.FieldFaults.{AnswersField};
 ghost use Rattle.pw_db.specs.Limits.{first_register, last_register};
-ghost use Rattle.pw_db_file.specs.Reading.{kept_at, next_least, registers_at, no_sharing_at, all_sharing_at, sharing_at};
+ghost use Rattle.pw_db_sharing.specs.Reading.{kept_at, next_least, registers_at, no_sharing_at, all_sharing_at, sharing_at};
 
 use pw_db::{FIRST, FIRST_REGISTER, LAST_REGISTER};
 use pw_fields::{FieldFault, read_u8, read_u32};
@@ -75,7 +75,7 @@ fn read_registers<'a>(
 
 /// The registers that a function is free to use, and those that it saves for others.
 #[derive(Drop)]
-pub(crate) struct Sharing {
+pub struct Sharing {
     pub free: Items<u8>,
     pub saves: Items<u8>,
 }
@@ -105,8 +105,9 @@ fn read_all_sharing(alloc: Global, bytes: &[u8]) -> Result<(Sharing, &[u8]), Fie
     Ok((Sharing { free, saves }, rest))
 }
 
-/// What a function shares, in a version.
-pub(crate) fn read_sharing(
+/// Reads what a function shares, in the form of a version, and answers what is left behind it. In the first version it is
+/// nothing, and a count that is not 0 is a fault.
+pub fn read_sharing(
     alloc: Global,
     version: u32,
     bytes: &[u8],

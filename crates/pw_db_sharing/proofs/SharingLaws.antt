@@ -1,6 +1,6 @@
 -- The registers that a function shares with others are read as they are spelled.
 use Rattle.std.proofs.Common.{◌≡◌, ℕ, suc, Bool, true, false, List, [], ◌∷◌, ◌++◌, length, refl, sym, ap, subst, ◌∙◌, arith, lit<, inl, inr}
-use Rattle.std.specs.Prelude.{IsTrue, Contains, not, nat_le, ◌==◌, ◌&&◌, if◌then◌else◌, Result}
+use Rattle.std.specs.Prelude.{IsTrue, Contains, not, nat_le, ◌==◌, ◌&&◌, if◌then◌else◌}
 use Rattle.std.specs.List.{flat_map, AllByRecursion, list_all}
 use Rattle.std.specs.Cmp.{first_so, second_so}
 use Rattle.std.specs.Cmp.Derive.{both_true}
@@ -16,9 +16,18 @@ use Rattle.pw_files.proofs.RisingLaws.{refit}
 use Rattle.pw_db.specs.Limits.{first_register, last_register}
 use Rattle.pw_db.specs.Database.{AreKeptFrom, first_version}
 use Rattle.pw_db.proofs.Keeping.{few_kept}
-use Rattle.pw_db_file.specs.Spelling.{sharing}
-use Rattle.pw_db_file.specs.Reading.{kept_at, next_least, registers_at, no_sharing_at, all_sharing_at, sharing_at}
-use Rattle.pw_db_file.proofs.WebLaws.{not_true, not_by}
+use Rattle.pw_db_sharing.specs.Spelling.{sharing}
+use Rattle.pw_db_sharing.specs.Reading.{kept_at, next_least, registers_at, no_sharing_at, all_sharing_at, sharing_at}
+
+-- ---- a test that is not so
+
+pub not_true : (b : Bool) → not b ≡ true → b ≡ true → ⊥
+not_true true e h = absurd cc
+not_true false e h = absurd cc
+
+pub not_by : (b : Bool) → (b ≡ true → ⊥) → not b ≡ true
+not_by true h = absurd (h refl)
+not_by false h = refl
 
 -- ---- a list of registers
 

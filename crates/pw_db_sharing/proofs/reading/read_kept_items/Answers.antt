@@ -1,8 +1,8 @@
-use Rattle.std.proofs.Common.{◌≡◌, ◌∙◌, ◌+◌, ℕ, suc, refl, ap, arith}
+use Rattle.std.proofs.Common.{◌≡◌, ◌+◌, suc, arith}
 use Rattle.std.proofs.lemmas.Result.{err_from_is_err_and}
 use Rattle.pw_fields.proofs.FieldLoops.{goes_on, ends, is_done}
-use Rattle.pw_db_file.specs.Reading.{kept_at, next_least}
-use Rattle.pw_db_file.proofs.sharing.read_kept_items.Goals as goal
+use Rattle.pw_db_sharing.specs.Reading.{kept_at, next_least}
+use Rattle.pw_db_sharing.proofs.reading.read_kept_items.Goals as goal
 
 pub returns-in_err-r : goal.returns-in_err-r
 returns-in_err-r c =
