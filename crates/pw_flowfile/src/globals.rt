@@ -46,7 +46,7 @@ fn read_content<'a>(
         ItemForm::Bytes => {
             let (text, rest) = read_item_bytes(place.0, place.1, bytes)?;
             Ok((
-                Item::Bytes(Items::from_vec(Vec::from_slice(alloc, text)?)),
+                Item::Bytes(Items::from_slice(alloc, text)?),
                 rest,
             ))
         }

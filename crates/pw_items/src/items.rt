@@ -1,6 +1,6 @@
 //! Lists.
 
-ghost use Rattle.std.specs.Prelude.{◌≡◌, ◌↔◌, ◌++◌, ◌∷◌, [], length, IsTrue, MatchOption, OnOk};
+ghost use Rattle.std.specs.Prelude.{◌≡◌, ◌↔◌, ◌++◌, ◌∷◌, [], length, IsTrue, IfOk, MatchOption, OnOk};
 
 use std::alloc::{AllocError, Global};
 use std::marker::Model;
@@ -73,6 +73,17 @@ impl<T> Items<T> {
         ensures { MatchOption result ((self.old ≡ []) × (self.new ≡ [])) (λ last. self.old ≡ self.new ++ last ∷ []) }
     {
         self.items.pop()
+    }
+}
+
+impl<T: Copy> Items<T> {
+    /// The same items again, in order. Fails only for want of memory.
+    pub fn from_slice(alloc: Global, items: &[T]) -> Result<Items<T>, AllocError>
+        ensures { IfOk result (λ copies. copies ≡ items.now) }
+    {
+        Ok(Items {
+            items: Vec::from_slice(alloc, items)?,
+        })
     }
 }
 

@@ -75,7 +75,7 @@ fn lower_item(alloc: Global, name: &Name, item: &TItem) -> Result<Item, NoMemory
     ensures { IfOk result (λ v. v ≡ spec.item_of name.now (view_item item.now)) }
 {
     match item {
-        TItem::Bytes(bytes) => Ok(Item::Bytes(Items::from_vec(Vec::from_slice(alloc, bytes)?))),
+        TItem::Bytes(bytes) => Ok(Item::Bytes(Items::from_slice(alloc, bytes)?)),
         TItem::Address(symbol, n) => Ok(Item::Address(full_name(alloc, name, symbol)?, *n)),
     }
 }

@@ -4,9 +4,9 @@ ghost use Rattle.std.specs.Prelude.{IfOk};
 ghost use Rattle.pw_flow.specs.ValidFlow.{IsValid};
 ghost use Rattle.pw_opt_rules.specs.Optimised.{IsOptimisedModule};
 
-use crate::again::{same_declarations, same_globals};
+use crate::again::same_declarations;
 use crate::functions::optimise_functions;
-use pw_flow::FlowModule;
+use pw_flow::{FlowModule, copy_globals};
 use pw_opt_constants::Constants;
 use pw_opt_quiet::Quiet;
 use std::alloc::{AllocError as NoMemory, Global};
@@ -24,7 +24,7 @@ pub fn optimise(alloc: Global, flow: &FlowModule) -> Result<FlowModule, NoMemory
     let quiet = Quiet::new(alloc, flow)?;
     let constants = Constants::new(alloc)?;
     let functions = optimise_functions(alloc, &quiet, &constants, flow.functions.as_slice())?;
-    let globals = same_globals(alloc, flow.globals.as_slice())?;
+    let globals = copy_globals(alloc, flow.globals.as_slice())?;
     let declared = same_declarations(alloc, flow.declared.as_slice())?;
     let name = flow.name.copy(alloc)?;
     Ok(FlowModule {

@@ -11,7 +11,6 @@ ghost use Rattle.pw_phase_two.specs.Origins.{IsOriginOf};
 ghost use Rattle.pw_phase_two.specs.Phases.{AreDirectivesOf, IsObjectOf, all_compiled};
 
 use crate::compiling::compile_all;
-use crate::copying::copy_globals;
 use crate::origin::{Origin, origin_of};
 use pw_db::Directives;
 use pw_flow::{FlowGlobal, FlowModule};

@@ -11,7 +11,6 @@ ghost use Rattle.pw_store_texts.specs.Placing.{with_outputs};
 ghost use Rattle.pw_store_texts.specs.Seen.{AnswersSeen, outcome, seen_text};
 
 use crate::compiled::Compiled;
-use crate::headers::TEXT_READ;
 use crate::place::put_module;
 use crate::sources::compile_sources;
 use pw_cpp::CppFault;

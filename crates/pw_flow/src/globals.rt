@@ -1,23 +1,25 @@
-//! Copies of global objects.
+//! Global objects: copies of them, and lists by reference.
 
-ghost use Rattle.std.specs.Prelude.{◌≡◌, IfOk};
+ghost use Rattle.std.specs.Prelude.{◌≡◌, ◌++◌, map, IfOk, OnOk};
 
-use pw_flow::{FlowGlobal, Item};
+use crate::flow::{FlowGlobal, Item};
 use pw_items::Items;
 use std::alloc::{AllocError, Global};
 
+/// The same part of an object's initial bytes again.
 fn copy_item(alloc: Global, item: &Item) -> Result<Item, AllocError>
     ensures { IfOk result (λ i. i ≡ item.now) }
 {
     match item {
-        Item::Bytes(bytes) => {
-            let bytes = Vec::from_slice(alloc, bytes.as_slice())?;
-            Ok(Item::Bytes(Items::from_vec(bytes)))
-        }
+        Item::Bytes(bytes) => Ok(Item::Bytes(Items::from_slice(
+            alloc,
+            bytes.as_slice(),
+        )?)),
         Item::Address(name, offset) => Ok(Item::Address(name.copy(alloc)?, *offset)),
     }
 }
 
+/// The same parts again, each with its offset.
 fn copy_items(alloc: Global, items: &[(u32, Item)]) -> Result<Items<(u32, Item)>, AllocError>
     ensures { IfOk result (λ v. v ≡ items.now) }
 {
@@ -28,6 +30,7 @@ fn copy_items(alloc: Global, items: &[(u32, Item)]) -> Result<Items<(u32, Item)>
     Ok(copies)
 }
 
+/// The same global object again.
 fn copy_global(alloc: Global, global: &FlowGlobal) -> Result<FlowGlobal, AllocError>
     ensures { IfOk result (λ g. g ≡ global.now) }
 {
@@ -41,7 +44,7 @@ fn copy_global(alloc: Global, global: &FlowGlobal) -> Result<FlowGlobal, AllocEr
     })
 }
 
-/// The same global objects again.
+/// The same global objects again, in order. Fails only for want of memory.
 pub fn copy_globals(alloc: Global, globals: &[FlowGlobal]) -> Result<Items<FlowGlobal>, AllocError>
     ensures { IfOk result (λ v. v ≡ globals.now) }
 {
@@ -50,4 +53,17 @@ pub fn copy_globals(alloc: Global, globals: &[FlowGlobal]) -> Result<Items<FlowG
         copies.push(copy_global(alloc, global)?)?;
     }
     Ok(copies)
+}
+
+/// Adds global objects by reference, in order, behind those that are there.
+pub fn add_globals<'a>(
+    all: &mut Vec<&'a FlowGlobal>,
+    globals: &'a [FlowGlobal],
+) -> Result<(), AllocError>
+    ensures { OnOk result (map (λ g. g.now) all.new.items ≡ map (λ g. g.now) all.old.items ++ globals.now) }
+{
+    for each in globals {
+        all.push(each)?;
+    }
+    Ok(())
 }
