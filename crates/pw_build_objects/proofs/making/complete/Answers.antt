@@ -5,7 +5,7 @@ use Rattle.pw_build_objects.specs.Choosing.{marks_of, objects_of}
 use Rattle.pw_build_objects.proofs.CountLemmas.{bound_as_many, broken_counted, made_counted}
 use Rattle.pw_build_objects.proofs.LoopLemmas.{bound_none}
 use Rattle.pw_build_objects.proofs.PreparedParts.{completed, parts_with, prepared_parts}
-use Rattle.pw_build_objects.proofs.RoomLaws.{new_objects_link}
+use Rattle.pw_build_objects.proofs.ShownLaws.{plain_objects_link}
 use Rattle.pw_build_objects.specs.declared.remade.Made.{Made}
 use Rattle.pw_build_objects.specs.Programs.{WasMade}
 use Rattle.pw_build_objects.proofs.WereMade.{were_made}
@@ -20,10 +20,10 @@ all_objects-requires g c = record {
 }
 
 pub linked-requires-clause-rules : goal.linked-requires-clause-rules
-linked-requires-clause-rules g c =
-    new_objects_link c.objects_are_refused_for_room_alone.ensures.links c.args.flows.items c.args.kept.items c.args.opts.now
-    (parts_with c.in_ok-prepared.prepared c.in_ok-made.made.items) c.requires.declares
-    (prepared_parts c.args.flows.items c.args.kept.items c.args.opts.now c.in_ok-prepared.prepared c.in_ok-made.made.items c.requires.lawful c.in_ok-prepared.ensures.prepared c.in_ok-made.ensures.objects)
+linked-requires-clause-rules g c = λ t.
+    plain_objects_link c.objects_show_their_modules.ensures.made c.objects_show_their_modules.ensures.linked c.forms_keep_what_modules_have.ensures.declare c.forms_keep_what_modules_have.ensures.rules
+    c.args.flows.items c.args.kept.items c.args.opts.now.optimise c.args.opts.now.colours c.in_ok-prepared.prepared (objects_of c.in_ok-made.made.items) (marks_of c.in_ok-made.made.items)
+    c.requires.lawful c.requires.declares c.in_ok-prepared.ensures.prepared c.in_ok-made.ensures.objects (c.show_no_more-plain.ensures t)
 
 pub returns-clause-built : goal.returns-clause-built
 returns-clause-built g c =
