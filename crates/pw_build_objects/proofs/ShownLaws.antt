@@ -1,8 +1,19 @@
 -- Objects that show no more than their modules do keep the rules of linking which the modules keep.
-use Rattle.std.proofs.Common.{◌≡◌, ◌↔◌, ℕ, suc, ◌+◌, ◌<◌, arith, Bool, true, false, List, [], ◌∷◌, ◌++◌, map, length, get_or, take, Option, None, Some, refl, sym, ap, subst, ◌∙◌, append_assoc, append-nil}
-use Rattle.std.specs.Prelude.{Contains, ◌⊎◌}
-use Rattle.std.specs.List.{AllByRecursion}
-use Rattle.std.proofs.lemmas.List.{take_more, map-append}
+use Rattle.std.proofs.Common.{◌≡◌, ◌↔◌, ℕ, zero, suc, ◌+◌, ◌<◌, arith, Bool, true, false, List, [], ◌∷◌, ◌++◌, map, length, get_or, take, Option, None, Some, Result, Ok, Err, refl, sym, ap, subst, ◌∙◌, inl, inr}
+use Rattle.std.specs.Prelude.{Contains, IfOk, ◌⊎◌, ◌&&◌}
+use Rattle.std.specs.Bool.{Decides}
+use Rattle.std.specs.List.{AllByRecursion, HoldsAt}
+use Rattle.std.specs.Str.{bytes_eq}
+use Rattle.std.specs.Cmp.{first_so, second_so}
+use Rattle.std.specs.Cmp.Derive.{both_true}
+use Rattle.std.specs.Cmp.Lexicographic.{pointwise, slice_cmp, texts_ties}
+use Rattle.std.specs.Ordering.{nat_cmp, is_eq}
+use Rattle.std.specs.declared.cmp.Ordering.TheVariants.{Equal}
+use Rattle.std.specs.Result.{is_ok}
+use Rattle.std.specs.List.Sorted.{IsSearchInRange}
+use Rattle.std.proofs.lemmas.List.{take_more}
+use Rattle.std.proofs.lemmas.Slice.Eq.{bytes_eq-Decides}
+use Rattle.pw_files.proofs.Standing.{Has, contains_by, has_by, has_map_back}
 use Rattle.pw_flow.specs.declared.flow.FlowModule.{FlowModule}
 use Rattle.pw_flow.specs.ValidFlow.{IsValid}
 use Rattle.pw_summary.specs.declared.summary.Summary.{Summary}
@@ -66,21 +77,47 @@ plain_objects_link made link declare rules flows kept optimise colours p os fres
     (link forms ss os is.lawful (declare optimise flows forms is.of_flows declares) is.summaries
     (all_show made forms colours p.analysed.database.functions is.lawful is.database forms ss kept os fresh is.lawful is.summaries are shown)).0 linked
 
--- ---- loops over lists of names
+-- ---- lists of names
 
-module _ {A B : Type 0} (n : A → List ℕ) (m : B → List ℕ) where
-  -- the names so far are the same, and those that are left follow
-  pub names_turn : (xs : List A) (i : ℕ) (x : A) (first : B) (behind : List B) (all : List (List ℕ)) → i < length xs → x ≡ get_or xs i x → n x ≡ m first → map n (take i xs) ++ map m (first ∷ behind) ≡ all
-      → map n (take (i + 1) xs) ++ map m behind ≡ all
-  names_turn xs i x first behind all lt is same inv =
-      let grown : map n (take (i + 1) xs) ≡ map n (take i xs) ++ n x ∷ [] =
-          ap (map n) (take_more xs i x lt ∙ ap (λ (y : A). take i xs ++ y ∷ []) (sym is)) ∙ map-append n (take i xs) (x ∷ []) in
-      ap (λ (ns : List (List ℕ)). ns ++ map m behind) grown
-      ∙ append_assoc (map n (take i xs)) (n x ∷ []) (map m behind)
-      ∙ ap (λ (k : List ℕ). map n (take i xs) ++ k ∷ map m behind) same
-      ∙ inv
+-- names that are told the same one by one are the same
+pub same_views : {A : Type 0} (n : A → List ℕ) (xs ys : List A) → pointwise (λ a b. bytes_eq (n a) (n b)) xs ys ≡ true → map n xs ≡ map n ys
+same_views n [] [] e = refl
+same_views n [] (y ∷ ys) e = absurd cc
+same_views n (x ∷ xs) [] e = absurd cc
+same_views n (x ∷ xs) (y ∷ ys) e =
+    let head : n x ≡ n y = (bytes_eq-Decides (n x) (n y)).0 (first_so (bytes_eq (n x) (n y)) (pointwise (λ a b. bytes_eq (n a) (n b)) xs ys) e) in
+    let rest = same_views n xs ys (second_so (bytes_eq (n x) (n y)) (pointwise (λ a b. bytes_eq (n a) (n b)) xs ys) e) in
+    λ i. head i ∷ rest i
 
--- what holds of each name of a list by the loop over it
+-- so are declarations, by both texts
+pub pair_decides : (x y : List ℕ × List ℕ) → Decides (bytes_eq x.0 y.0 && bytes_eq x.1 y.1) (x ≡ y)
+pair_decides x y = (
+  λ e.
+    let one : x.0 ≡ y.0 = (bytes_eq-Decides x.0 y.0).0 (first_so (bytes_eq x.0 y.0) (bytes_eq x.1 y.1) e) in
+    let other : x.1 ≡ y.1 = (bytes_eq-Decides x.1 y.1).0 (second_so (bytes_eq x.0 y.0) (bytes_eq x.1 y.1) e) in
+    λ i. (one i, other i),
+  λ e. both_true ((bytes_eq-Decides x.0 y.0).1 (ap (λ (p : List ℕ × List ℕ). p.0) e)) ((bytes_eq-Decides x.1 y.1).1 (ap (λ (p : List ℕ × List ℕ). p.1) e)),
+)
+
+-- ---- names that are found by halves
+
+has_at : {A : Type 0} (n : A → List ℕ) (xs : List A) (i : ℕ) (x : List ℕ) → i < length xs → HoldsAt (λ y. slice_cmp nat_cmp (n y) x ≡ Equal) xs i → Has x (map n xs)
+has_at n [] i x lt at = absurd (omega (arith, lt))
+has_at n (y ∷ ys) zero x lt at = inl ((bytes_eq-Decides (n y) x).0 (texts_ties (n y) x ∙ ap is_eq (at y)))
+has_at n (y ∷ ys) (suc i) x lt at = inr (has_at n ys i x (omega (arith, lt)) at)
+
+pub found_by_halves : {A : Type 0} (n : A → List ℕ) (xs : List A) (x : List ℕ) (r : Result ℕ ℕ) → is_ok r ≡ true → IsSearchInRange r (length xs)
+    → IfOk r (HoldsAt (λ y. slice_cmp nat_cmp (n y) x ≡ Equal) xs) → Contains (map n xs) x
+found_by_halves n xs x (Ok i) e range at = contains_by x (map n xs) (has_at n xs i x range at)
+found_by_halves n xs x (Err i) e range at = absurd cc
+
+pub plain_view : (xs : List (List ℕ)) → map (λ x. x) xs ≡ xs
+plain_view [] = refl
+plain_view (x ∷ xs) = ap (λ (ys : List (List ℕ)). x ∷ ys) (plain_view xs)
+
+-- ---- a loop over names
+
+-- what holds of each name that was looked at holds of one more
 pub known_turn : {A : Type 0} (n : A → List ℕ) (P : List ℕ → Type 0) (xs : List A) (i : ℕ) (x : A) → i < length xs → x ≡ get_or xs i x → AllByRecursion (λ y. P (n y)) (take i xs) → P (n x) → AllByRecursion (λ y. P (n y)) (take (i + 1) xs)
 known_turn n P xs i x lt is all h =
     subst (AllByRecursion (λ y. P (n y))) (sym (take_more xs i x lt ∙ ap (λ (y : _). take i xs ++ y ∷ []) (sym is))) (pushed (take i xs) all)
@@ -88,3 +125,13 @@ known_turn n P xs i x lt is all h =
     pushed : (ys : List _) → AllByRecursion (λ y. P (n y)) ys → AllByRecursion (λ y. P (n y)) (ys ++ x ∷ [])
     pushed [] a = (h, tt)
     pushed (y ∷ ys) a = (a.0, pushed ys a.1)
+
+of_each : {A : Type 0} (P : A → Type 0) (xs : List A) → AllByRecursion P xs → (x : A) → Has x xs → P x
+of_each P [] all x h = absurd h
+of_each P (y ∷ ys) all x (inl e) = subst P e all.0
+of_each P (y ∷ ys) all x (inr h) = of_each P ys all.1 x h
+
+pub known_all : {A : Type 0} (n : A → List ℕ) (P : List ℕ → Type 0) (xs : List A) → AllByRecursion (λ y. P (n y)) xs → (x : List ℕ) → Contains (map n xs) x → P x
+known_all n P xs all x c =
+    let f = has_map_back n x xs (has_by x (map n xs) c) in
+    subst P f.2 (of_each (λ y. P (n y)) xs all f.0 f.1)

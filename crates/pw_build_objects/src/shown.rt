@@ -72,17 +72,7 @@ fn named_by(alloc: Global, object: &Object) -> Result<Vec<&Name>, AllocError>
 fn are_same_names(names: &[&Name], others: &[&Name]) -> bool
     ensures { IsTrue result → map (λ name. name.now) names.now ≡ map (λ name. name.now) others.now }
 {
-    let mut rest = others;
-    for name in names {
-        let [first, behind @ ..] = rest else {
-            return false;
-        };
-        if name.as_bytes() != first.as_bytes() {
-            return false;
-        }
-        rest = behind;
-    }
-    rest.is_empty()
+    names == others
 }
 
 /// Whether lists of names are the same.
@@ -130,6 +120,22 @@ fn defines_module(alloc: Global, flow: &FlowModule, object: &Object) -> Result<b
     Ok(are_same_names(&functions, &own_functions) && are_same_names(&globals, &own_globals))
 }
 
+/// Whether an object is of the module of a flow graph.
+fn is_of(flow: &FlowModule, object: &Object) -> bool
+    ensures { IsTrue result → object.now.module ≡ flow.now.name }
+{
+    object.module == flow.name
+}
+
+/// Whether an object lists what a summary does.
+fn lists_as(summary: &Summary, object: &Object) -> bool
+    ensures declared { IsTrue result → object.now.declared ≡ summary.now.declared }
+    ensures used { IsTrue result → object.now.used ≡ summary.now.used }
+{
+    are_same_declarations(object.declared.as_slice(), summary.declared.as_slice())
+        && are_same_lists(object.used.as_slice(), summary.used.as_slice())
+}
+
 /// Whether an object shows what its module does, which has this summary; `globals` are those of the program.
 fn shows_module(
     alloc: Global,
@@ -142,14 +148,17 @@ fn shows_module(
     requires { (n : List ℕ) → Contains (map (λ global. global.now) globals.now) n → Contains (globals_of program.now) n }
     ensures { IfOk result (λ shows. IsTrue shows → ShowsModule program.now flow.now summary.now object.now) }
 {
-    if object.module != flow.name || !defines_module(alloc, flow, object)? {
+    if !is_of(flow, object) {
         return Ok(false);
     }
-    let used = summary.used.as_slice();
-    let lists = are_same_declarations(object.declared.as_slice(), summary.declared.as_slice())
-        && are_same_lists(object.used.as_slice(), used);
+    if !lists_as(summary, object) {
+        return Ok(false);
+    }
+    if !defines_module(alloc, flow, object)? {
+        return Ok(false);
+    }
     let named = named_by(alloc, object)?;
-    Ok(lists && are_known(&named, used, globals))
+    Ok(are_known(&named, summary.used.as_slice(), globals))
 }
 
 /// Whether what was kept of a module, if anything was, shows what the module does.
