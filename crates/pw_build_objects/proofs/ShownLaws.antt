@@ -1,6 +1,6 @@
 -- Objects that show no more than their modules do keep the rules of linking which the modules keep.
-use Rattle.std.proofs.Common.{◌≡◌, ◌↔◌, ℕ, zero, suc, ◌+◌, ◌<◌, arith, Bool, true, false, List, [], ◌∷◌, ◌++◌, map, length, get_or, take, Option, None, Some, Result, Ok, Err, refl, sym, ap, subst, ◌∙◌, inl, inr}
-use Rattle.std.specs.Prelude.{Contains, IfOk, ◌⊎◌, ◌&&◌}
+use Rattle.std.proofs.Common.{◌≡◌, ◌↔◌, ℕ, zero, suc, ◌+◌, ◌<◌, arith, Bool, true, false, List, [], ◌∷◌, ◌++◌, map, length, get_or, take, Option, None, Result, Ok, Err, refl, sym, ap, subst, ◌∙◌, inl, inr}
+use Rattle.std.specs.Prelude.{Contains, IfOk, ◌&&◌}
 use Rattle.std.specs.Bool.{Decides}
 use Rattle.std.specs.List.{AllByRecursion, HoldsAt}
 use Rattle.std.specs.Str.{bytes_eq}
@@ -25,7 +25,7 @@ use Rattle.pw_link_interface.specs.Interface.{interface}
 use Rattle.pw_law_shown.specs.Alike.{DeclaresMain, IsObjectIn, ShowModules, ShowsModule}
 use Rattle.pw_build_objects.specs.declared.forms.Prepared.{Prepared}
 use Rattle.pw_build_objects.specs.Preparing.{IsPrepared}
-use Rattle.pw_build_objects.specs.Programs.{AreForms, AreObjectsFrom, AreSummariesOf, DirectivesList, HasDatabase, IsModuleFrom, KeepRules, first_kept, kept_behind}
+use Rattle.pw_build_objects.specs.Programs.{AreForms, AreObjectsFrom, AreSummariesOf, DirectivesList, HasDatabase, IsModuleFrom, KeepRules}
 use Rattle.pw_build_objects.specs.Showing.{ShowWhereKept, ShowsIfKept}
 use Rattle.pw_build_objects.proofs.Databases.{object_in}
 
@@ -118,11 +118,11 @@ plain_view (x ∷ xs) = ap (λ (ys : List (List ℕ)). x ∷ ys) (plain_view xs)
 -- ---- a loop over names
 
 -- what holds of each name that was looked at holds of one more
-pub known_turn : {A : Type 0} (n : A → List ℕ) (P : List ℕ → Type 0) (xs : List A) (i : ℕ) (x : A) → i < length xs → x ≡ get_or xs i x → AllByRecursion (λ y. P (n y)) (take i xs) → P (n x) → AllByRecursion (λ y. P (n y)) (take (i + 1) xs)
-known_turn n P xs i x lt is all h =
-    subst (AllByRecursion (λ y. P (n y))) (sym (take_more xs i x lt ∙ ap (λ (y : _). take i xs ++ y ∷ []) (sym is))) (pushed (take i xs) all)
+pub known_turn : {A : Type 0} (n : A → List ℕ) (P : List ℕ → Type 0) (xs : List A) (i : ℕ) (x d : A) → i < length xs → x ≡ get_or xs i d → AllByRecursion (λ y. P (n y)) (take i xs) → P (n x) → AllByRecursion (λ y. P (n y)) (take (i + 1) xs)
+known_turn {A} n P xs i x d lt is all h =
+    subst (AllByRecursion (λ y. P (n y))) (sym (take_more xs i d lt ∙ ap (λ (y : A). take i xs ++ y ∷ []) (sym is))) (pushed (take i xs) all)
   where
-    pushed : (ys : List _) → AllByRecursion (λ y. P (n y)) ys → AllByRecursion (λ y. P (n y)) (ys ++ x ∷ [])
+    pushed : (ys : List A) → AllByRecursion (λ y. P (n y)) ys → AllByRecursion (λ y. P (n y)) (ys ++ x ∷ [])
     pushed [] a = (h, tt)
     pushed (y ∷ ys) a = (a.0, pushed ys a.1)
 

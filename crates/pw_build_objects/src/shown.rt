@@ -154,7 +154,8 @@ fn shows_module(
     if !lists_as(summary, object) {
         return Ok(false);
     }
-    if !defines_module(alloc, flow, object)? {
+    let same = defines_module(alloc, flow, object)?;
+    if !same {
         return Ok(false);
     }
     let named = named_by(alloc, object)?;
