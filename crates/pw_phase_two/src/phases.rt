@@ -13,7 +13,7 @@ ghost use Rattle.pw_phase_two.specs.Phases.{AreDirectivesOf, IsObjectOf, all_com
 use crate::compiling::compile_all;
 use crate::origin::{Origin, origin_of};
 use pw_db::Directives;
-use pw_flow::{FlowGlobal, FlowModule};
+use pw_flow::{FlowGlobal, FlowModule, copy_globals};
 use pw_items::Items;
 use pw_object::{Object, ObjectFn, VERSION};
 use pw_summarise::{Interface, interface_of};

@@ -14,6 +14,7 @@ use crate::names::is_source_file;
 use crate::outputs::preprocess_source;
 use crate::source::Source;
 use pw_io::{Store, StoreError};
+use pw_store_modules::{TEXT_READ, stem};
 use pw_value::Name;
 use std::alloc::{AllocError, Global};
 

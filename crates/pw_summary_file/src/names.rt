@@ -4,8 +4,8 @@ ghost use Rattle.std.specs.Prelude.{◌≡◌, map, IfOk};
 ghost use Rattle.pw_summary_file.specs.Spelling.{names_of};
 
 use pw_files::used::{add_names, add_shaped};
-use pw_summary_parts::{add_all_uses, add_globals};
 use pw_summary::Summary;
+use pw_summary_parts::{add_all_uses, add_globals};
 use pw_value::{Kind, Name, Shape};
 use std::alloc::{AllocError, Global};
 

@@ -12,13 +12,13 @@ ghost use Rattle.pw_summary_file.specs.Spelling.{IsSummaryFile};
 ghost use Rattle.pw_summary_file.specs.Reading.{defined_at, used_at, last_rules, fields_at, summary_file_at};
 
 use crate::names::{function_names, global_names, used_names};
-use pw_fields::names::{find_unused, read_name};
 use pw_fields::FieldFault;
+use pw_fields::names::{find_unused, read_name};
 use pw_files::format::{Format, read_value};
 use pw_files::late::check_module;
 use pw_files::lists::{read_name_list, read_shaped_list};
-use pw_summary_parts::{read_all_uses, read_global_list};
 use pw_summary::{Defined, FIRST, KIND, Summary, Used, VERSION, summary_of};
+use pw_summary_parts::{read_all_uses, read_global_list};
 use pw_value::program_names::StartName;
 use pw_value::{FileError, Name};
 use std::alloc::Global;

@@ -12,8 +12,8 @@ ghost use Rattle.pw_summary_file.specs.Spelling.{IsSummaryFile, FitsSummary, IsN
 use crate::names::used_names;
 use pw_fields::names::{push_name, push_names};
 use pw_files::writing::{make_table, push_name_list, push_shaped_list, seal_payload};
-use pw_summary_parts::{push_all_uses, push_global_list};
 use pw_summary::{KIND, Summary};
+use pw_summary_parts::{push_all_uses, push_global_list};
 use pw_value::Name;
 use std::alloc::{AllocError, Global};
 
