@@ -1,8 +1,8 @@
 //! The directives of a module's functions.
 
-ghost use Rattle.std.specs.Prelude.{◌≡◌, ◌≢◌, ℕ, List, map, IfOk, IfSome, IfNone, All, Contains};
+ghost use Rattle.std.specs.Prelude.{◌≡◌, ◌≢◌, map, IfOk, IfSome, IfNone, All, Contains};
 ghost use Rattle.pw_files.specs.Rising.{IsRising};
-ghost use Rattle.pw_db.specs.Database.{IsDatabase, EachTwo, CanBeStored, HasDirectives, empty, says_something};
+ghost use Rattle.pw_db.specs.Database.{IsDatabase, EachTwo, CanBeStored, HasDirectives, empty, say_something};
 
 use crate::database::{Database, Directives, Role, Web};
 use pw_items::Items;
@@ -49,7 +49,7 @@ impl Directives {
 
     /// Whether they hold a web, a register that is free to use, or one to save for others; a database has no others.
     pub fn say_something(&self) -> bool
-        ensures { (name : List ℕ) → result ≡ says_something (name, self.now) }
+        ensures { result ≡ say_something self.now }
     {
         !self.webs.is_empty() || (!self.free.is_empty() || !self.saves.is_empty())
     }
