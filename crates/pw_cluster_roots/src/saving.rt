@@ -1,6 +1,6 @@
 //! The registers that roots save and members are free to use.
 
-ghost use Rattle.std.specs.Prelude.{◌≡◌, ◌≤◌, ◌<◌, ◌==◌, ◌&&◌, not, max, if◌then◌else◌, ℕ, All, length, slice_index, IfOk};
+ghost use Rattle.std.specs.Prelude.{◌≡◌, ◌≤◌, ◌<◌, ◌==◌, ◌&&◌, not, max, if◌then◌else◌, ℕ, All, length, slice_index, replicate, IfOk};
 ghost use Rattle.pw_summary.specs.Summary.{need_limit};
 ghost use Rattle.pw_clusters.specs.Saving.{need_in, last_registers as last_ones, saves_by, free_by};
 
@@ -22,6 +22,14 @@ fn raise(most: &mut [u8], place: usize, root: usize, need: u8)
     }
 }
 
+/// So many zeros.
+fn zeros(alloc: Global, count: usize) -> Result<Vec<u8>, NoMemory>
+    ensures { IfOk result (λ v. v.items ≡ replicate count 0) }
+{
+    let zeros = vec![in alloc; 0; count]?;
+    Ok(zeros)
+}
+
 /// Of each place the greatest need among the members of its cluster.
 pub fn greatest_needs(alloc: Global, roots: &[u32], needs: &[u8]) -> Result<Vec<u8>, NoMemory>
     requires count { length needs.now ≡ length roots.now }
@@ -29,7 +37,7 @@ pub fn greatest_needs(alloc: Global, roots: &[u32], needs: &[u8]) -> Result<Vec<
     ensures count { IfOk result (λ v. length v.items ≡ length roots.now) }
     ensures needs { IfOk result (λ v. (r : ℕ) → slice_index v.items r ≡ need_in roots.now needs.now r) }
 {
-    let mut most = vec![in alloc; 0; roots.len()]?;
+    let mut most = zeros(alloc, roots.len())?;
     for place in 0..roots.len() {
         raise(&mut most, place, roots[place] as usize, needs[place]);
     }

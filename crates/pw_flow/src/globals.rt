@@ -11,10 +11,10 @@ fn copy_item(alloc: Global, item: &Item) -> Result<Item, AllocError>
     ensures { IfOk result (λ i. i ≡ item.now) }
 {
     match item {
-        Item::Bytes(bytes) => Ok(Item::Bytes(Items::from_slice(
-            alloc,
-            bytes.as_slice(),
-        )?)),
+        Item::Bytes(bytes) => {
+            let bytes = Items::from_slice(alloc, bytes.as_slice())?;
+            Ok(Item::Bytes(bytes))
+        }
         Item::Address(name, offset) => Ok(Item::Address(name.copy(alloc)?, *offset)),
     }
 }

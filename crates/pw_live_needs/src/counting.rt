@@ -13,6 +13,15 @@ pub(crate) struct Counting {
     pub marks: Vec<u32>,
 }
 
+/// As many zeros as there are points.
+fn zeros(alloc: Global, points: usize) -> Result<Vec<u32>, NoMemory>
+    ensures long { IfOk result (λ v. length v.items ≡ points) }
+    ensures none { IfOk result (λ v. (q : ℕ) → slice_index v.items q ≡ 0) }
+{
+    let zeros = vec![in alloc; 0; points]?;
+    Ok(zeros)
+}
+
 impl Counting {
     /// Nothing has been counted at so many points.
     pub fn new(alloc: Global, points: usize) -> Result<Counting, NoMemory>
@@ -20,8 +29,8 @@ impl Counting {
         ensures counts { IfOk result (λ v. (q : ℕ) → slice_index v.counts.items q ≡ 0) }
         ensures marks { IfOk result (λ v. (q : ℕ) → slice_index v.marks.items q ≡ 0) }
     {
-        let counts = vec![in alloc; 0; points]?;
-        let marks = vec![in alloc; 0; points]?;
+        let counts = zeros(alloc, points)?;
+        let marks = zeros(alloc, points)?;
         Ok(Counting { counts, marks })
     }
 
