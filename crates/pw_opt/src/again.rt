@@ -1,35 +1,11 @@
-//! The same parts of a module again.
+//! The same function again.
 
 ghost use Rattle.std.specs.Prelude.{◌≡◌, IfOk};
 
 use pw_flow::{Block, FlowFn, Op};
 use pw_items::Items;
 use pw_opt_constants::Constants;
-use pw_value::{Name, Shape};
 use std::alloc::{AllocError as NoMemory, Global};
-
-/// The same declaration again.
-fn same_declaration(alloc: Global, declared: &(Name, Shape)) -> Result<(Name, Shape), NoMemory>
-    ensures { IfOk result (λ d. d ≡ declared.now) }
-{
-    let name = declared.0.copy(alloc)?;
-    let shape = declared.1.copy(alloc)?;
-    Ok((name, shape))
-}
-
-/// The same declarations again.
-pub(crate) fn same_declarations(
-    alloc: Global,
-    declared: &[(Name, Shape)],
-) -> Result<Items<(Name, Shape)>, NoMemory>
-    ensures { IfOk result (λ v. v ≡ declared.now) }
-{
-    let mut same = Items::new(alloc);
-    for one in declared {
-        same.push(same_declaration(alloc, one)?)?;
-    }
-    Ok(same)
-}
 
 /// The same operations again.
 fn same_ops(alloc: Global, constants: &Constants, ops: &[Op]) -> Result<Items<Op>, NoMemory>
