@@ -1,7 +1,6 @@
 use Rattle.std.proofs.Common.{◌⊎◌, Bor, List, map, subst}
 use Rattle.std.specs.Prelude.{Contains}
 use Rattle.std.specs.List.{AllByRecursion}
-use Rattle.std.proofs.lemmas.Bool.{not-false}
 use Rattle.std.proofs.lemmas.List.{take_all}
 use Rattle.pw_value.specs.declared.name.Name.{Name}
 use Rattle.pw_build_objects.proofs.ShownLaws.{known_all, known_turn}
@@ -10,7 +9,7 @@ use Rattle.pw_build_objects.proofs.shown.are_known.Goals as goal
 pub loop-name-preserved : goal.loop-name-preserved
 loop-name-preserved c =
     known_turn (λ name. name.now) (λ n. Contains c.args.used.now n ⊎ Contains (map (λ global. global.now) c.args.globals.now) n) c.args.names.now c.loop-name.name-index c.name-item.result _
-    c.loop-name-test.true c.name-item.is c.loop-name.invariant (c.is_known.ensures (not-false _ c.if-not-is_known.false))
+    c.loop-name-test.true c.name-item.is c.loop-name.invariant (c.is_known.ensures c.if-not-is_known.false)
 
 pub returns : goal.returns
 returns c = λ t.
