@@ -40,7 +40,8 @@ use std::alloc::Global;
 /// How deep the nodes of an expression may stand that is evaluated in one step.
 const DIRECT_DEPTH: u32 = 12;
 
-/// What is asked.
+/// One step where a value or a place is asked: that of a small expression is there at once; else what is left of it goes onto
+/// the call's list of what is to be done. A stop tells why the run ends.
 pub fn ask_step<'a>(
     alloc: Global,
     call: &mut Call<'a>,

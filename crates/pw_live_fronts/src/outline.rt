@@ -48,7 +48,8 @@ impl Act {
         self.uses.as_slice()
     }
 
-    /// Whether it calls a function.
+    /// Whether the operation calls a function, by name or through a pointer, so that registers that a callee may
+    /// change hold nothing across it.
     pub fn calls(&self) -> bool
         ensures { result ≡ self.now.calls }
     {
@@ -94,7 +95,7 @@ impl Stretch {
         self.depth
     }
 
-    /// Its operations.
+    /// The operations of the block, in the order in which they run.
     pub fn acts(&self) -> &[Act]
         ensures { result.now ≡ self.now.acts }
     {
@@ -158,7 +159,7 @@ impl Outline {
         self.temps
     }
 
-    /// Its blocks.
+    /// The blocks of the function by their numbers; it starts at block 0.
     pub fn blocks(&self) -> &[Stretch]
         ensures { result.now ≡ self.now.blocks }
     {

@@ -9,13 +9,6 @@ use pw_items::Items;
 use pw_live_fronts::{Act, Outline, Stretch};
 use std::alloc::{AllocError as NoMemory, Global};
 
-/// The same numbers, as items.
-pub fn numbers(alloc: Global, numbers: &[u32]) -> Result<Items<u32>, NoMemory>
-    ensures { IfOk result (λ v. v ≡ numbers.now) }
-{
-    Ok(Items::from_vec(Vec::from_slice(alloc, numbers)?))
-}
-
 /// A number, and numbers behind it.
 fn numbers_behind(alloc: Global, first: u32, rest: &[u32]) -> Result<Items<u32>, NoMemory>
     ensures { IfOk result (λ v. v ≡ first ∷ rest.now) }
@@ -39,13 +32,13 @@ pub fn op_uses(alloc: Global, op: &Op) -> Result<Items<u32>, NoMemory>
         | Op::AddrFn(_, _)
         | Op::LoadG(_, _, _) => Ok(Items::new(alloc)),
         Op::Copy(_, a) | Op::Un(_, _, a) | Op::Ext(_, _, a) | Op::Load(_, _, a) => {
-            numbers(alloc, &[*a])
+            Items::from_slice(alloc, &[*a])
         }
-        Op::StoreG(_, a, _) => numbers(alloc, &[*a]),
+        Op::StoreG(_, a, _) => Items::from_slice(alloc, &[*a]),
         Op::Bin(_, _, a, b) | Op::Store(_, a, b) | Op::Move(a, b, _, _) => {
-            numbers(alloc, &[*a, *b])
+            Items::from_slice(alloc, &[*a, *b])
         }
-        Op::Call(_, _, args) => numbers(alloc, args.as_slice()),
+        Op::Call(_, _, args) => Items::from_slice(alloc, args.as_slice()),
         Op::CallInd(_, a, _, args) => numbers_behind(alloc, *a, args.as_slice()),
     }
 }
@@ -103,7 +96,7 @@ pub fn end_uses(alloc: Global, end: End) -> Result<Items<u32>, NoMemory>
 {
     match end {
         End::Jump(_) | End::Return(None) => Ok(Items::new(alloc)),
-        End::Branch(a, _, _) | End::Return(Some(a)) => numbers(alloc, &[a]),
+        End::Branch(a, _, _) | End::Return(Some(a)) => Items::from_slice(alloc, &[a]),
     }
 }
 
@@ -112,8 +105,8 @@ pub fn successors(alloc: Global, end: End) -> Result<Items<u32>, NoMemory>
     ensures { IfOk result (λ v. v ≡ successors end) }
 {
     match end {
-        End::Jump(b) => numbers(alloc, &[b]),
-        End::Branch(_, b, c) => numbers(alloc, &[b, c]),
+        End::Jump(b) => Items::from_slice(alloc, &[b]),
+        End::Branch(_, b, c) => Items::from_slice(alloc, &[b, c]),
         End::Return(_) => Ok(Items::new(alloc)),
     }
 }

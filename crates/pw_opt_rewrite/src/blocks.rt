@@ -9,7 +9,6 @@ ghost use Rattle.pw_opt_rewrite.specs.Within.{IsRewrittenWithin};
 
 use pw_flow::{Block, FlowFn, Op};
 use pw_items::Items;
-use pw_live_outline::numbers;
 use pw_opt_rows::{Rewriting, Row, find_fronts};
 use std::alloc::{AllocError as NoMemory, Global};
 
@@ -85,7 +84,7 @@ pub fn rewrite<R: Rewriting>(alloc: Global, rewriting: &R, f: &FlowFn) -> Result
 {
     let mut fronts = find_fronts(alloc, rewriting, f)?;
     let blocks = rewrite_blocks(alloc, rewriting, &mut fronts, f.blocks.as_slice())?;
-    let slots = numbers(alloc, f.slots.as_slice())?;
+    let slots = Items::from_slice(alloc, f.slots.as_slice())?;
     Ok(FlowFn {
         name: f.name.copy(alloc)?,
         shape: f.shape.copy(alloc)?,

@@ -6,4 +6,4 @@ mod operands;
 
 pub use blocks::rewrite;
 pub use operands::{end_with_originals, original, with_originals};
-pub use pw_live_outline::{numbers, op_defines};
+pub use pw_live_outline::op_defines;
