@@ -3,6 +3,7 @@ use Rattle.std.specs.Prelude.{ℕ, zero, suc, ◌≡◌, ◌≢◌, ◌⊎◌, �
 use Rattle.std.proofs.Common.{refl, sym, ap, subst, ◌∙◌, arith, inl, inr}
 use Rattle.std.proofs.lemmas.Bool.{cases_lt, cases_eq}
 use Rattle.std.proofs.lemmas.List.{get_or-set_same, get_or-set_other, get_or_past, length-replicate}
+use Rattle.std.proofs.lemmas.List.Elements.{Contains-get_or}
 use Rattle.pw_flow.specs.declared.flow.Op.{Op}
 use Rattle.pw_flow.specs.declared.flow.Block.{Block}
 use Rattle.pw_flow.specs.declared.flow.FlowFn.{FlowFn}
@@ -14,7 +15,7 @@ use Rattle.pw_opt_places.specs.declared.places.Place.{Place}
 use Rattle.pw_opt_places.specs.declared.places.Place.TheVariants.{Nowhere, Own, Shared}
 use Rattle.pw_opt_places.specs.Homes.{home_of, homes_of}
 use Rattle.pw_opt_places.specs.Places.{place_of, IsShared, IsPlaceIn, IsAtHome, AreGiven, ArePlacesOf}
-use Rattle.pw_opt_places.specs.Giving.{IsHomeBelow, IsPlaceFor, ArePlacesFor}
+use Rattle.pw_opt_places.specs.Giving.{IsHomeBelow, IsPlaceFor, ArePlacesFor, place_for}
 use Rattle.pw_opt_places.proofs.Listing.{pushed_at, pushed_long, all_alike}
 use Rattle.pw_opt_places.proofs.Homing.{IsIn, Below, Serves, none_below, blocks_below, blocks_long, blocks_serve}
 
@@ -67,9 +68,9 @@ over_given places names counts g = record {
 
 pub share_given : (places : List Place) (names counts : List ℕ) (n : ℕ) → n ≡ length places → AreGiven places names counts → AreGiven (places ++ Shared (length names) ∷ []) (names ++ n ∷ []) counts
 share_given places names counts n next g = record {
-  named = λ t i e. elim (pushed_at places p Nowhere t) [
+  named = λ t i e. elim (pushed_at places (Shared (length names)) Nowhere t) [
     | inl w ↦
-        let same : length names ≡ i = (let f : p ≡ Shared i = sym w.1 ∙ e in cc) in
+        let same : length names ≡ i = (let f : (Shared (length names)) ≡ Shared i = sym w.1 ∙ e in cc) in
         (omega (arith, same, more), own_name t i same w.0)
     | inr w ↦
         let old = g.named t i (sym w.1 ∙ e) in
@@ -77,27 +78,25 @@ share_given places names counts n next g = record {
         (omega (arith, low, more), other_name i low ∙ old.1)
   ];
   placed = λ i lt. elim (cases_eq i (length names)) [
-    | inl last ↦ subst (λ k. place_of (places ++ p ∷ []) (slice_index_or (names ++ n ∷ []) k 0) ≡ Shared k) (sym last) placed_last
+    | inl last ↦ subst (λ k. place_of (places ++ (Shared (length names)) ∷ []) (slice_index_or (names ++ n ∷ []) k 0) ≡ Shared k) (sym last) placed_last
     | inr other ↦
         let low : i < length names = omega (arith, lt, other, more) in
-        ap (place_of (places ++ p ∷ [])) (other_name i low) ∙ still_placed places p (slice_index_or names i 0) i (g.placed i low)
+        ap (place_of (places ++ (Shared (length names)) ∷ [])) (other_name i low) ∙ still_placed places (Shared (length names)) (slice_index_or names i 0) i (g.placed i low)
   ];
-  within = λ t b j e. elim (pushed_at places p Nowhere t) [
-    | inl w ↦ absurd (let clash : p ≡ Own b j = sym w.1 ∙ e in cc)
+  within = λ t b j e. elim (pushed_at places (Shared (length names)) Nowhere t) [
+    | inl w ↦ absurd (let clash : (Shared (length names)) ≡ Own b j = sym w.1 ∙ e in cc)
     | inr w ↦ g.within t b j (sym w.1 ∙ e)
   ];
-  apart = λ t u b j e f. elim (pushed_at places p Nowhere t) [
-    | inl w ↦ absurd (let clash : p ≡ Own b j = sym w.1 ∙ e in cc)
-    | inr w ↦ elim (pushed_at places p Nowhere u) [
-      | inl v ↦ absurd (let clash : p ≡ Own b j = sym v.1 ∙ f in cc)
+  apart = λ t u b j e f. elim (pushed_at places (Shared (length names)) Nowhere t) [
+    | inl w ↦ absurd (let clash : (Shared (length names)) ≡ Own b j = sym w.1 ∙ e in cc)
+    | inr w ↦ elim (pushed_at places (Shared (length names)) Nowhere u) [
+      | inl v ↦ absurd (let clash : (Shared (length names)) ≡ Own b j = sym v.1 ∙ f in cc)
       | inr v ↦ g.apart t u b j (sym w.1 ∙ e) (sym v.1 ∙ f)
     ]
   ];
-  fewer = λ b. let le = g.fewer b in let long = pushed_long places p in omega (arith, le, long);
+  fewer = λ b. let le = g.fewer b in let long = pushed_long places (Shared (length names)) in omega (arith, le, long);
 }
   where
-    abbrev p : Place
-    p = Shared (length names)
     more : length (names ++ n ∷ []) ≡ suc (length names)
     more = pushed_long names n
     last_name : slice_index_or (names ++ n ∷ []) (length names) 0 ≡ n
@@ -106,27 +105,27 @@ share_given places names counts n next g = record {
     own_name t i same here = ap (λ (k : ℕ). slice_index_or (names ++ n ∷ []) k 0) (sym same) ∙ last_name ∙ next ∙ sym here
     other_name : (i : ℕ) → i < length names → slice_index_or (names ++ n ∷ []) i 0 ≡ slice_index_or names i 0
     other_name i low = elim (pushed_at names n 0 i) [ inl w ↦ absurd (let here = w.0 in omega (arith, low, here)) | inr w ↦ w.1 ]
-    placed_last : place_of (places ++ p ∷ []) (slice_index_or (names ++ n ∷ []) (length names) 0) ≡ p
-    placed_last = ap (place_of (places ++ p ∷ [])) last_name ∙ elim (pushed_at places p Nowhere n) [ inl w ↦ w.1 | inr w ↦ absurd (w.0 next) ]
+    placed_last : place_of (places ++ (Shared (length names)) ∷ []) (slice_index_or (names ++ n ∷ []) (length names) 0) ≡ (Shared (length names))
+    placed_last = ap (place_of (places ++ (Shared (length names)) ∷ [])) last_name ∙ elim (pushed_at places (Shared (length names)) Nowhere n) [ inl w ↦ w.1 | inr w ↦ absurd (w.0 next) ]
 
 pub own_given : (places : List Place) (names counts : List ℕ) (b : ℕ) → b < length counts → AreGiven places names counts
     → AreGiven (places ++ Own b (slice_index_or counts b 0) ∷ []) names (slice_set counts b (slice_index_or counts b 0 + 1))
 own_given places names counts b low g = record {
-  named = λ t i e. elim (pushed_at places p Nowhere t) [
-    | inl w ↦ absurd (let clash : p ≡ Shared i = sym w.1 ∙ e in cc)
+  named = λ t i e. elim (pushed_at places (Own b (slice_index_or counts b 0)) Nowhere t) [
+    | inl w ↦ absurd (let clash : (Own b (slice_index_or counts b 0)) ≡ Shared i = sym w.1 ∙ e in cc)
     | inr w ↦ g.named t i (sym w.1 ∙ e)
   ];
-  placed = λ i lt. still_placed places p (slice_index_or names i 0) i (g.placed i lt);
-  within = λ t c j e. elim (pushed_at places p Nowhere t) [
+  placed = λ i lt. still_placed places (Own b (slice_index_or counts b 0)) (slice_index_or names i 0) i (g.placed i lt);
+  within = λ t c j e. elim (pushed_at places (Own b (slice_index_or counts b 0)) Nowhere t) [
     | inl w ↦ own_within c j (sym w.1 ∙ e)
     | inr w ↦ let old = g.within t c j (sym w.1 ∙ e) in let up = counted_up c in omega (arith, old, up)
   ];
-  apart = λ t u c j e f. elim (pushed_at places p Nowhere t) [
-    | inl w ↦ elim (pushed_at places p Nowhere u) [
+  apart = λ t u c j e f. elim (pushed_at places (Own b (slice_index_or counts b 0)) Nowhere t) [
+    | inl w ↦ elim (pushed_at places (Own b (slice_index_or counts b 0)) Nowhere u) [
       | inl v ↦ w.0 ∙ sym v.0
       | inr v ↦ absurd (no_two c j (sym w.1 ∙ e) u (sym v.1 ∙ f))
     ]
-    | inr w ↦ elim (pushed_at places p Nowhere u) [
+    | inr w ↦ elim (pushed_at places (Own b (slice_index_or counts b 0)) Nowhere u) [
       | inl v ↦ absurd (no_two c j (sym v.1 ∙ f) t (sym w.1 ∙ e))
       | inr v ↦ g.apart t u c j (sym w.1 ∙ e) (sym v.1 ∙ f)
     ]
@@ -134,38 +133,32 @@ own_given places names counts b low g = record {
   fewer = λ c. counted_few c;
 }
   where
-    abbrev n : ℕ
-    n = slice_index_or counts b 0
-    abbrev p : Place
-    p = Own b n
-    abbrev new : List ℕ
-    new = slice_set counts b (n + 1)
-    here : slice_index_or new b 0 ≡ n + 1
-    here = get_or-set_same counts b (n + 1) 0 low
-    own_block : (c j : ℕ) → p ≡ Own c j → b ≡ c
+    here : slice_index_or (slice_set counts b ((slice_index_or counts b 0) + 1)) b 0 ≡ (slice_index_or counts b 0) + 1
+    here = get_or-set_same counts b ((slice_index_or counts b 0) + 1) 0 low
+    own_block : (c j : ℕ) → (Own b (slice_index_or counts b 0)) ≡ Own c j → b ≡ c
     own_block c j e = cc
-    own_number : (c j : ℕ) → p ≡ Own c j → n ≡ j
+    own_number : (c j : ℕ) → (Own b (slice_index_or counts b 0)) ≡ Own c j → (slice_index_or counts b 0) ≡ j
     own_number c j e = cc
-    own_within : (c j : ℕ) → p ≡ Own c j → j < slice_index_or new c 0
+    own_within : (c j : ℕ) → (Own b (slice_index_or counts b 0)) ≡ Own c j → j < slice_index_or (slice_set counts b ((slice_index_or counts b 0) + 1)) c 0
     own_within c j e =
-        let same : n ≡ j = own_number c j e in
-        subst (λ k. j < slice_index_or new k 0) (own_block c j e) (omega (arith, here, same))
-    counted_up : (c : ℕ) → slice_index_or counts c 0 ≤ slice_index_or new c 0
+        let same : (slice_index_or counts b 0) ≡ j = own_number c j e in
+        subst (λ k. j < slice_index_or (slice_set counts b ((slice_index_or counts b 0) + 1)) k 0) (own_block c j e) (omega (arith, here, same))
+    counted_up : (c : ℕ) → slice_index_or counts c 0 ≤ slice_index_or (slice_set counts b ((slice_index_or counts b 0) + 1)) c 0
     counted_up c = elim (cases_eq c b) [
-      | inl same ↦ subst (λ k. slice_index_or counts k 0 ≤ slice_index_or new k 0) (sym same) (omega (arith, here))
-      | inr other ↦ let stays = get_or-set_other counts b c (n + 1) 0 other in omega (arith, stays)
+      | inl same ↦ subst (λ k. slice_index_or counts k 0 ≤ slice_index_or (slice_set counts b ((slice_index_or counts b 0) + 1)) k 0) (sym same) (omega (arith, here))
+      | inr other ↦ let stays = get_or-set_other counts b c ((slice_index_or counts b 0) + 1) 0 other in omega (arith, stays)
     ]
-    counted_few : (c : ℕ) → slice_index_or new c 0 ≤ length (places ++ p ∷ [])
+    counted_few : (c : ℕ) → slice_index_or (slice_set counts b ((slice_index_or counts b 0) + 1)) c 0 ≤ length (places ++ (Own b (slice_index_or counts b 0)) ∷ [])
     counted_few c =
-        let long = pushed_long places p in
+        let long = pushed_long places (Own b (slice_index_or counts b 0)) in
         elim (cases_eq c b) [
-          | inl same ↦ subst (λ k. slice_index_or new k 0 ≤ length (places ++ p ∷ [])) (sym same) (let le = g.fewer b in omega (arith, here, le, long))
-          | inr other ↦ let stays = get_or-set_other counts b c (n + 1) 0 other in let le = g.fewer c in omega (arith, stays, le, long)
+          | inl same ↦ subst (λ k. slice_index_or (slice_set counts b ((slice_index_or counts b 0) + 1)) k 0 ≤ length (places ++ (Own b (slice_index_or counts b 0)) ∷ [])) (sym same) (let le = g.fewer b in omega (arith, here, le, long))
+          | inr other ↦ let stays = get_or-set_other counts b c ((slice_index_or counts b 0) + 1) 0 other in let le = g.fewer c in omega (arith, stays, le, long)
         ]
-    no_two : (c j : ℕ) → p ≡ Own c j → (t : ℕ) → place_of places t ≡ Own c j → ⊥
+    no_two : (c j : ℕ) → (Own b (slice_index_or counts b 0)) ≡ Own c j → (t : ℕ) → place_of places t ≡ Own c j → ⊥
     no_two c j e t old =
         let lt : j < slice_index_or counts c 0 = g.within t c j old in
-        let same : n ≡ j = own_number c j e in
+        let same : (slice_index_or counts b 0) ≡ j = own_number c j e in
         let block : slice_index_or counts b 0 ≡ slice_index_or counts c 0 = ap (λ (k : ℕ). slice_index_or counts k 0) (own_block c j e) in
         omega (arith, lt, same, block)
 
@@ -187,6 +180,17 @@ for_more n homes places p are fits = (
   where
     lower : (t : ℕ) → t < n + 1 → t ≢ n → t < n
     lower t lt other = elim (cases_eq t n) [ inl e ↦ absurd (other e) | inr e ↦ omega (arith, lt, e) ]
+
+pub place_fits : (h : Home) (names counts : List ℕ) → IsPlaceFor h (place_for h names counts)
+place_fits home.Nowhere names counts = refl
+place_fits (home.At b) names counts = (slice_index_or counts b 0, refl)
+place_fits home.Everywhere names counts = (length names, refl)
+
+pub greatest_few : (counts : List ℕ) (most : ℕ) → All (λ n. n ≤ most) counts → (b : ℕ) → slice_index_or counts b 0 ≤ most
+greatest_few counts most all b = elim (cases_lt b (length counts)) [
+  | inl low ↦ all b 0 low
+  | inr past ↦ let none : slice_index_or counts b 0 ≡ 0 = get_or_past counts b 0 past in omega (arith, none)
+]
 
 pub home_below : (blocks : ℕ) (homes : List Home) (t : ℕ) → All (IsHomeBelow blocks) homes → IsHomeBelow blocks (home_of homes t)
 home_below blocks homes t all = elim (cases_lt t (length homes)) [
@@ -224,10 +228,10 @@ everywhere_shared home.Everywhere places t e fits = fits
 pub places_of_function : (f : FlowFn) (homes : List Home) (places : List Place) → homes ≡ homes_of f → ArePlacesFor f.temps homes places → ArePlacesOf f places
 places_of_function f homes places is are = record {
   each = are.0;
-  home = λ b block at o t c e. elim (cases_lt t f.temps) [
+  home = λ b block at k d low t e. elim (cases_lt t f.temps) [
     | inl lt ↦
         let serves = serve b block at in
-        inr (place_in b (home_of homes t) (place_of places t) (subst (λ hs. IsIn b (home_of hs t)) (sym is) (serves.defines o t c e (omega (arith, lt, long)))) (are.1 t lt))
+        inr (place_in b (home_of homes t) (place_of places t) (subst (λ hs. IsIn b (home_of hs t)) (sym is) (serves.defines (slice_index_or block.ops k d) t (Contains-get_or block.ops k d low) e (omega (arith, lt, long)))) (are.1 t lt))
     | inr past ↦ inl (let each = are.0 in omega (arith, past, each))
   ];
   first = λ b block t at reads. elim (cases_lt t f.temps) [

@@ -3,7 +3,7 @@ use Rattle.std.specs.Prelude.{ℕ, zero, suc, ◌≡◌, ◌≢◌, ◌⊎◌, �
 use Rattle.std.proofs.Common.{refl, sym, ap, subst, ◌∙◌, arith, inl, inr, get_or}
 use Rattle.std.proofs.lemmas.Bool.{cases_lt, cases_eq, eqb-true, eq-eqb}
 use Rattle.std.proofs.lemmas.List.{get_or-set_same, get_or-set_other, get_or_past, length-set, take_more}
-use Rattle.std.proofs.lemmas.Option.{same_Some}
+use Rattle.std.proofs.lemmas.Option.{same_Some, slice_get_within}
 use Rattle.pw_flow.specs.declared.flow.Op.{Op}
 use Rattle.pw_flow.specs.declared.flow.Block.{Block}
 use Rattle.pw_flow.specs.Uses.{op_uses, op_defines, end_uses}
@@ -338,7 +338,7 @@ one_serves b homes block below later long up = record {
 }
 
 pub blocks_serve : (b k n : ℕ) (homes : List Home) (blocks : List Block) (block : Block) → n ≡ b + k → Below b homes → slice_get blocks k ≡ Some block → Serves n block (with_blocks b homes blocks)
-blocks_serve b k n homes [] block e below is = absurd cc
+blocks_serve b k n homes [] block e below is = absurd (let lt = slice_get_within [] k block is in omega (arith, lt))
 blocks_serve b zero n homes (x ∷ blocks) block e below is =
     let here : n ≡ b = omega (arith, e) in
     subst (λ m. Serves m block (with_blocks b homes (x ∷ blocks))) (sym here)

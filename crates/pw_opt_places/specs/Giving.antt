@@ -1,5 +1,5 @@
 -- Places, given to one temporary after the other.
-use Rattle.std.specs.Prelude.{ℕ, ◌≡◌, ◌<◌, ◌++◌, List, [], ◌∷◌, length}
+use Rattle.std.specs.Prelude.{ℕ, ◌≡◌, ◌<◌, ◌++◌, List, [], ◌∷◌, length, slice_index_or}
 use Rattle.pw_opt_places.specs.declared.homes.Home.{Home}
 use Rattle.pw_opt_places.specs.declared.homes.Home.TheVariants as home
 use Rattle.pw_opt_places.specs.declared.places.Place.{Place}
@@ -20,6 +20,12 @@ abbrev pub IsHomeBelow : ℕ → Home → Type 0
 IsHomeBelow blocks home.Nowhere = Unit {0}
 IsHomeBelow blocks (home.At b) = b < blocks
 IsHomeBelow blocks home.Everywhere = Unit {0}
+
+-- the next place that suits a temporary
+abbrev pub place_for : Home → List ℕ → List ℕ → Place
+place_for home.Nowhere names counts = place.Nowhere
+place_for (home.At b) names counts = place.Own b (slice_index_or counts b 0)
+place_for home.Everywhere names counts = place.Shared (length names)
 
 -- the place that a temporary needs
 abbrev pub IsPlaceFor : Home → Place → Type 0

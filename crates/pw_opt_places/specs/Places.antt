@@ -1,5 +1,5 @@
 -- Where rows keep what is known of temporaries.
-use Rattle.std.specs.Prelude.{ℕ, ◌≡◌, ◌⊎◌, ◌<◌, ◌≤◌, Some, List, length, slice_get, slice_index_or, Contains}
+use Rattle.std.specs.Prelude.{ℕ, ◌≡◌, ◌⊎◌, ◌<◌, ◌≤◌, Some, List, All, length, slice_get, slice_index_or}
 use Rattle.pw_flow.specs.declared.flow.Op.{Op}
 use Rattle.pw_flow.specs.declared.flow.Block.{Block}
 use Rattle.pw_flow.specs.declared.flow.FlowFn.{FlowFn}
@@ -38,12 +38,13 @@ pub record ArePlaces (places : List Place) (names counts : List ℕ) (own : ℕ)
   pub given : AreGiven places names counts
   pub most : (b : ℕ) → slice_index_or counts b 0 ≤ own
 
--- what a block defines is at home in it
-abbrev pub DefinesAtHome : List Place → ℕ → Block → Type 0
-DefinesAtHome places b block = (o : Op) (t : ℕ) → Contains block.ops o → op_defines o ≡ Some t → IsAtHome places b t
+-- an operation defines what is at home in a block
+abbrev pub DefinesAtHome : List Place → ℕ → Op → Type 0
+DefinesAtHome places b o = (t : ℕ) → op_defines o ≡ Some t → IsAtHome places b t
 
+-- what blocks define is at home in them
 abbrev pub DefineAtHome : List Place → List Block → Type 0
-DefineAtHome places blocks = (b : ℕ) (block : Block) → slice_get blocks b ≡ Some block → DefinesAtHome places b block
+DefineAtHome places blocks = (b : ℕ) (block : Block) → slice_get blocks b ≡ Some block → All (DefinesAtHome places b) block.ops
 
 -- The places of a function's temporaries: what a block defines is at home there, and what it reads before it defines it is shared.
 pub record ArePlacesOf (f : FlowFn) (places : List Place) : Type 0 where

@@ -1,6 +1,6 @@
 //! Which blocks have a temporary.
 
-ghost use Rattle.std.specs.Prelude.{◌≡◌, IfOk};
+ghost use Rattle.std.specs.Prelude.{◌≡◌, IfOk, slice_set};
 ghost use Rattle.pw_flow.specs.Uses.{op_uses, end_uses};
 ghost use Rattle.pw_opt_places.specs.Homes.{home_of, home_read, home_defined, with_read, with_reads, with_defined, with_op, with_ops, with_block, with_blocks, homes_of};
 
@@ -69,14 +69,22 @@ impl Homes {
         }
     }
 
+    /// Sets where a temporary is at home. Past the end it does nothing.
+    fn set(&mut self, t: u32, home: Home)
+        ensures { self.new ≡ slice_set self.old t home }
+    {
+        let place = t as usize;
+        if place < self.homes.len() {
+            self.homes[place] = home;
+        }
+    }
+
     /// A block reads a temporary.
     fn read(&mut self, block: usize, t: u32)
         ensures { self.new ≡ with_read block self.old t }
     {
-        let place = t as usize;
-        if place < self.homes.len() {
-            self.homes[place] = home_read(self.homes[place], block);
-        }
+        let home = home_read(self.at(t), block);
+        self.set(t, home);
     }
 
     /// A block reads temporaries.
@@ -95,10 +103,8 @@ impl Homes {
         let Some(t) = defined else {
             return;
         };
-        let place = t as usize;
-        if place < self.homes.len() {
-            self.homes[place] = home_defined(self.homes[place], block);
-        }
+        let home = home_defined(self.at(t), block);
+        self.set(t, home);
     }
 
     /// A block reads what an operation reads.
@@ -180,9 +186,8 @@ impl Homes {
     pub(crate) fn of(alloc: Global, f: &FlowFn) -> Result<Homes, NoMemory>
         ensures { IfOk result (λ homes. homes ≡ homes_of f.now) }
     {
-        let mut homes = Homes {
-            homes: vec![in alloc; Home::Nowhere; f.temps as usize]?,
-        };
+        let nowhere = vec![in alloc; Home::Nowhere; f.temps as usize]?;
+        let mut homes = Homes { homes: nowhere };
         homes.pass_all(f.blocks.as_slice());
         Ok(homes)
     }

@@ -1,9 +1,8 @@
 //! Places of temporaries in rows of what is known.
 
 ghost use Rattle.std.specs.Prelude.{◌≡◌, [], ◌<◌, ◌≤◌, All, IfOk, OnOk, length, slice_index_or};
-ghost use Rattle.pw_opt_places.specs.declared.places.Place.{Place as PlaceValue};
 ghost use Rattle.pw_opt_places.specs.declared.places.Place.TheVariants as place;
-ghost use Rattle.pw_opt_places.specs.Giving.{AreGivenIn, HasPlace, IsHomeBelow, IsPlaceFor, ArePlacesFor};
+ghost use Rattle.pw_opt_places.specs.Giving.{AreGivenIn, HasPlace, IsHomeBelow, ArePlacesFor, place_for};
 ghost use Rattle.pw_opt_places.specs.Places.{place_of, ArePlaces, ArePlacesOf};
 
 use crate::homes::{Home, Homes};
@@ -100,7 +99,7 @@ impl Given {
         requires next { t ≡ length self.old.places.items }
         requires home { IsHomeBelow (length self.old.counts.items) home }
         ensures are { OnOk result (AreGivenIn self.new) }
-        ensures place { OnOk result ((place : PlaceValue) × HasPlace self.old self.new place × IsPlaceFor home place) }
+        ensures place { OnOk result (HasPlace self.old self.new (place_for home self.old.names.items self.old.counts.items)) }
     {
         match home {
             Home::Nowhere => self.pass_over(),

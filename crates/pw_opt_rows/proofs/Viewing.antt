@@ -3,27 +3,19 @@ use Rattle.std.specs.Prelude.{ℕ, suc, ◌≡◌, ◌≢◌, ◌==◌, ◌<◌,
 use Rattle.std.proofs.Common.{refl, sym, ap, subst, ◌∙◌, arith, inl, inr}
 use Rattle.std.proofs.lemmas.Bool.{cases_lt, cases_eq, eqb-true, eq-eqb}
 use Rattle.std.proofs.lemmas.List.{ext_get_or, get_or_past, get_or-set_same, get_or-set_other, length-set, length-map}
-use Rattle.std.proofs.Math.ListN.{get_or-map as map_at}
 use Rattle.pw_opt_rules.specs.declared.flat.Flat.{Flat}
-use Rattle.pw_opt_rules.specs.declared.flat.Flat.TheVariants.{One, Many}
+use Rattle.pw_opt_rules.specs.declared.flat.Flat.TheVariants.{Many}
 use Rattle.pw_opt_rules.specs.Rows.{known}
 use Rattle.pw_opt_places.specs.declared.places.Place.{Place}
 use Rattle.pw_opt_places.specs.declared.places.Place.TheVariants.{Nowhere, Own, Shared}
 use Rattle.pw_opt_places.specs.declared.places.Places.{Places}
 use Rattle.pw_opt_places.specs.Places.{place_of, IsPlaceIn, IsAtHome, IsShared}
-use Rattle.pw_opt_rows.specs.Joins.{HasWhatMay, IsOwnRow}
 use Rattle.pw_opt_rows.specs.Places.{at_place, with_place}
-use Rattle.pw_opt_rows.specs.Seeing.{seen, at_rest, rested, taken, IsRowOf, may_at, IsOwn}
-use Rattle.pw_opt_rows.specs.RowLaws.{known_rested, rested_long, known_taken, taken_long, taken_past}
-
-pub known_seen : (places : List Place) (b : ℕ) (row : List Flat × List Flat) (t : ℕ) → known (seen places b row) t ≡ at_place b row (place_of places t)
-known_seen places b row t = map_at (at_place b row) places t Nowhere
+use Rattle.pw_opt_rows.specs.Seeing.{seen, at_rest, rested, taken, IsRowOf}
+use Rattle.pw_opt_rows.specs.RowLaws.{known_seen, known_rested, rested_long, known_taken, taken_long}
 
 pub seen_long : (places : List Place) (b : ℕ) (row : List Flat × List Flat) → length (seen places b row) ≡ length places
 seen_long places b row = length-map places (at_place b row)
-
-one_or_many : (n : ℕ) → ◌≡◌ {A = Flat} Many (One n) → ⊥
-one_or_many n e = cc
 
 -- ---- what is set at one place
 
@@ -84,30 +76,28 @@ home_of places b t home lt = elim home [ inl past ↦ absurd (omega (arith, past
 pub seen_set : (ps : Places) (b : ℕ) (row : List Flat × List Flat) (t : ℕ) (x : Flat) → IsRowOf ps row → IsAtHome ps.places.items b t
     → seen ps.places.items b (with_place row (place_of ps.places.items t) x) ≡ slice_set (seen ps.places.items b row) t x
 seen_set ps b row t x is home =
-    ext_get_or Many (seen places b (with_place row (place_of places t) x)) (slice_set (seen places b row) t x) (seen_long places b (with_place row (place_of places t) x) ∙ sym long) (λ u lt.
-    let low : u < length places = let n = seen_long places b (with_place row (place_of places t) x) in omega (arith, lt, n) in
-    known_seen places b (with_place row (place_of places t) x) u ∙ elim (cases_eq u t) [
-      | inl same ↦ subst (λ (v : ℕ). at_place b (with_place row (place_of places t) x) (place_of places v) ≡ known (slice_set (seen places b row) t x) v) (sym same) (here (subst (λ (v : ℕ). v < length places) same low))
+    ext_get_or Many (seen ps.places.items b (with_place row (place_of ps.places.items t) x)) (slice_set (seen ps.places.items b row) t x) (seen_long ps.places.items b (with_place row (place_of ps.places.items t) x) ∙ sym long) (λ u lt.
+    let low : u < length ps.places.items = let n = seen_long ps.places.items b (with_place row (place_of ps.places.items t) x) in omega (arith, lt, n) in
+    known_seen ps.places.items b (with_place row (place_of ps.places.items t) x) u ∙ elim (cases_eq u t) [
+      | inl same ↦ subst (λ (v : ℕ). at_place b (with_place row (place_of ps.places.items t) x) (place_of ps.places.items v) ≡ known (slice_set (seen ps.places.items b row) t x) v) (sym same) (here (subst (λ (v : ℕ). v < length ps.places.items) same low))
       | inr other ↦ there u low other
     ])
   where
-    abbrev places : List Place
-    places = ps.places.items
-    long : length (slice_set (seen places b row) t x) ≡ length places
-    long = length-set (seen places b row) t x ∙ seen_long places b row
-    here : t < length places → at_place b (with_place row (place_of places t) x) (place_of places t) ≡ known (slice_set (seen places b row) t x) t
+    long : length (slice_set (seen ps.places.items b row) t x) ≡ length ps.places.items
+    long = length-set (seen ps.places.items b row) t x ∙ seen_long ps.places.items b row
+    here : t < length ps.places.items → at_place b (with_place row (place_of ps.places.items t) x) (place_of ps.places.items t) ≡ known (slice_set (seen ps.places.items b row) t x) t
     here lt =
-        this_set ps b row x (place_of places t) is (home_of places b t home lt) (within ps b t (place_of places t) refl)
-        ∙ sym (get_or-set_same (seen places b row) t x Many (let n = seen_long places b row in omega (arith, lt, n)))
-    stays : (u : ℕ) → u ≢ t → at_place b (with_place row (place_of places t) x) (place_of places u) ≡ at_place b row (place_of places u)
-    stays u other = elim (cases_lt t (length places)) [
+        this_set ps b row x (place_of ps.places.items t) is (home_of ps.places.items b t home lt) (within ps b t (place_of ps.places.items t) refl)
+        ∙ sym (get_or-set_same (seen ps.places.items b row) t x Many (let n = seen_long ps.places.items b row in omega (arith, lt, n)))
+    stays : (u : ℕ) → u ≢ t → at_place b (with_place row (place_of ps.places.items t) x) (place_of ps.places.items u) ≡ at_place b row (place_of ps.places.items u)
+    stays u other = elim (cases_lt t (length ps.places.items)) [
       | inl lt ↦
-          let home_t = home_of places b t home lt in
-          other_stays b row x (place_of places t) (place_of places u) home_t (λ e. other (sym (one_place ps b t u (place_of places t) refl (sym e) home_t)))
-      | inr past ↦ ap (λ (p : Place). at_place b (with_place row p x) (place_of places u)) (get_or_past places t Nowhere past)
+          let home_t = home_of ps.places.items b t home lt in
+          other_stays b row x (place_of ps.places.items t) (place_of ps.places.items u) home_t (λ e. other (sym (one_place ps b t u (place_of ps.places.items t) refl (sym e) home_t)))
+      | inr past ↦ ap (λ (p : Place). at_place b (with_place row p x) (place_of ps.places.items u)) (get_or_past ps.places.items t Nowhere past)
     ]
-    there : (u : ℕ) → u < length places → u ≢ t → at_place b (with_place row (place_of places t) x) (place_of places u) ≡ known (slice_set (seen places b row) t x) u
-    there u lt other = stays u other ∙ sym (known_seen places b row u) ∙ sym (get_or-set_other (seen places b row) t u x Many other)
+    there : (u : ℕ) → u < length ps.places.items → u ≢ t → at_place b (with_place row (place_of ps.places.items t) x) (place_of ps.places.items u) ≡ known (slice_set (seen ps.places.items b row) t x) u
+    there u lt other = stays u other ∙ sym (known_seen ps.places.items b row u) ∙ sym (get_or-set_other (seen ps.places.items b row) t u x Many other)
 
 set_row : (ps : Places) (row : List Flat × List Flat) (p : Place) (x : Flat) → IsRowOf ps row → IsRowOf ps (with_place row p x)
 set_row ps row Nowhere x is = is
@@ -117,32 +107,17 @@ set_row ps row (Shared i) x is = (length-set row.0 i x ∙ is.0, is.1)
 pub row_set : (ps : Places) (row new : List Flat × List Flat) (p : Place) (x : Flat) → new ≡ with_place row p x → IsRowOf ps row → IsRowOf ps new
 row_set ps row new p x e is = subst (IsRowOf ps) (sym e) (set_row ps row p x is)
 
--- of what is known in a block each temporary is at home there
-home_or_many : (b : ℕ) (row : List Flat × List Flat) (p : Place) (n : ℕ) → at_place b row p ≡ One n → IsPlaceIn b p
-home_or_many b row Nowhere n e = absurd (one_or_many n e)
-home_or_many b row (Own c j) n e = by (c == b) refl e
-  where
-    by : (d : Bool) → (c == b) ≡ d → (if d then known row.1 j else Many) ≡ One n → c ≡ b
-    by true e f = eqb-true c b e
-    by false e f = absurd (one_or_many n f)
-home_or_many b row (Shared i) n e = tt
-
-pub known_at_home : (places : List Place) (b : ℕ) (row : List Flat × List Flat) (t n : ℕ) → known (seen places b row) t ≡ One n → IsAtHome places b t
-known_at_home places b row t n e = inr (home_or_many b row (place_of places t) n (sym (known_seen places b row t) ∙ e))
-
 -- ---- where nothing is known of what a block has for itself
 
 pub fresh_seen : (ps : Places) (b : ℕ) (row : List Flat × List Flat) → ((j : ℕ) → j < slice_index_or ps.counts.items b 0 → known row.1 j ≡ Many) → seen ps.places.items b row ≡ rested ps.places.items row.0
 fresh_seen ps b row nothing =
-    ext_get_or Many (seen places b row) (rested places row.0) (seen_long places b row ∙ sym (rested_long places row.0))
-    (λ t lt. known_seen places b row t ∙ by (place_of places t) t refl ∙ sym (known_rested places row.0 t))
+    ext_get_or Many (seen ps.places.items b row) (rested ps.places.items row.0) (seen_long ps.places.items b row ∙ sym (rested_long ps.places.items row.0))
+    (λ t lt. known_seen ps.places.items b row t ∙ by (place_of ps.places.items t) t refl ∙ sym (known_rested ps.places.items row.0 t))
   where
-    abbrev places : List Place
-    places = ps.places.items
-    own : (c j t : ℕ) → place_of places t ≡ Own c j → (d : Bool) → (c == b) ≡ d → (if d then known row.1 j else Many) ≡ Many
+    own : (c j t : ℕ) → place_of ps.places.items t ≡ Own c j → (d : Bool) → (c == b) ≡ d → (if d then known row.1 j else Many) ≡ Many
     own c j t e true f = nothing j (subst (λ (k : ℕ). j < slice_index_or ps.counts.items k 0) (eqb-true c b f) (ps.are.given.within t c j e))
     own c j t e false f = refl
-    by : (p : Place) (t : ℕ) → place_of places t ≡ p → at_place b row p ≡ at_rest row.0 p
+    by : (p : Place) (t : ℕ) → place_of ps.places.items t ≡ p → at_place b row p ≡ at_rest row.0 p
     by Nowhere t e = refl
     by (Own c j) t e = own c j t e (c == b) refl
     by (Shared i) t e = refl
@@ -150,26 +125,7 @@ fresh_seen ps b row nothing =
 -- shared places have what is known of their temporaries
 pub seen_taken : (ps : Places) (b : ℕ) (row : List Flat × List Flat) (full : List Flat) → length row.0 ≡ length ps.names.items → seen ps.places.items b row ≡ full → row.0 ≡ taken ps.names.items full
 seen_taken ps b row full long is =
-    ext_get_or Many row.0 (taken names full) (long ∙ sym (taken_long names full)) (λ i lt.
-    let low : i < length names = omega (arith, lt, long) in
-    let name : ℕ = slice_index_or names i 0 in
-    sym (known_taken names full i low ∙ ap (λ (v : List Flat). known v name) (sym is) ∙ known_seen ps.places.items b row name ∙ ap (at_place b row) (ps.are.given.placed i low)))
-  where
-    abbrev names : List ℕ
-    names = ps.names.items
-
--- ---- what may be known
-
-pub rested_may : (ps : Places) (may : ℕ → ℕ → Bool) (shared : List Flat) → HasWhatMay (may_at ps.names.items may) shared → HasWhatMay may (rested ps.places.items shared)
-rested_may ps may shared has t n e = by (place_of ps.places.items t) refl (sym (known_rested ps.places.items shared t) ∙ e)
-  where
-    by : (p : Place) → place_of ps.places.items t ≡ p → at_rest shared p ≡ One n → may t n ≡ true
-    by Nowhere at e = absurd (one_or_many n e)
-    by (Own c j) at e = absurd (one_or_many n e)
-    by (Shared i) at e = subst (λ (k : ℕ). may k n ≡ true) (ps.are.given.named t i at).1 (has i n e)
-
-pub taken_may : (names : List ℕ) (may : ℕ → ℕ → Bool) (full : List Flat) → HasWhatMay may full → HasWhatMay (may_at names may) (taken names full)
-taken_may names may full has i n e = elim (cases_lt i (length names)) [
-  | inl lt ↦ has (slice_index_or names i 0) n (sym (known_taken names full i lt) ∙ e)
-  | inr past ↦ absurd (one_or_many n (sym (taken_past names full i past) ∙ e))
-]
+    ext_get_or Many row.0 (taken ps.names.items full) (long ∙ sym (taken_long ps.names.items full)) (λ i lt.
+    let low : i < length ps.names.items = omega (arith, lt, long) in
+    let name : ℕ = slice_index_or ps.names.items i 0 in
+    sym (known_taken ps.names.items full i low ∙ ap (λ (v : List Flat). known v name) (sym is) ∙ known_seen ps.places.items b row name ∙ ap (at_place b row) (ps.are.given.placed i low)))

@@ -1,7 +1,7 @@
 -- Laws of rows, for the lattice of rows and the problems over it.
 use Rattle.std.specs.Prelude.{◌≡◌, ℕ, ◌*◌, ◌≤◌, ◌<◌, ◌==◌, if◌then◌else◌, Option, Some, None, List, [], ◌∷◌, length, map, slice_get, slice_index_or, replicate, Bool, true, false}
 use Rattle.std.proofs.Common.{refl, sym, ap, subst, ◌∙◌, arith, inl, inr}
-use Rattle.std.proofs.lemmas.Bool.{cases_lt}
+use Rattle.std.proofs.lemmas.Bool.{cases_lt, eqb-true}
 use Rattle.std.proofs.lemmas.List.{length-replicate, length-map, get_or-map, get_or_past}
 use Rattle.std.proofs.lemmas.List.Sums.{sum_by-cons}
 use Rattle.std.proofs.Math.ListN.{get_or-map as map_at}
@@ -17,9 +17,10 @@ use Rattle.pw_opt_order.specs.Order.{below_many, below_through, rows_below_thems
 use Rattle.pw_opt_places.specs.declared.places.Place.{Place}
 use Rattle.pw_opt_places.specs.declared.places.Place.TheVariants.{Nowhere, Own, Shared}
 use Rattle.pw_opt_places.specs.declared.places.Places.{Places}
-use Rattle.pw_opt_places.specs.Places.{place_of}
-use Rattle.pw_opt_rows.specs.Joins.{flat_rank, row_rank, IsOwnRow}
-use Rattle.pw_opt_rows.specs.Seeing.{at_rest, rested, taken, IsOwn, IsBelowShared}
+use Rattle.pw_opt_places.specs.Places.{place_of, IsPlaceIn, IsAtHome}
+use Rattle.pw_opt_rows.specs.Joins.{flat_rank, row_rank, HasWhatMay}
+use Rattle.pw_opt_rows.specs.Places.{at_place}
+use Rattle.pw_opt_rows.specs.Seeing.{seen, at_rest, rested, taken, may_at, IsOwn, IsBelowShared}
 use Rattle.pw_opt_rows.specs.Outflows.{entered, outflow_by, outflow, IsOutflow}
 
 -- the order of rows is one
@@ -28,6 +29,9 @@ rows_order ps may = record {
   reflexive = λ a _. rows_below_themselves a.0;
   transitive = λ a b c _ _ _ f g t. below_through (known a.0 t) (known b.0 t) (known c.0 t) (f t) (g t);
 }
+
+one_or_many : (n : ℕ) → ◌≡◌ {A = Flat} Many (One n) → ⊥
+one_or_many n e = cc
 
 -- ---- what is known of shared temporaries
 
@@ -63,6 +67,43 @@ taken_rises names x y below i = elim (cases_lt i (length names)) [
       (subst (λ z. IsBelow (known x (slice_index_or names i 0)) z) (sym (known_taken names y i lt)) (below (slice_index_or names i 0)))
   | inr past ↦ subst (λ z. IsBelow (known (taken names x) i) z) (sym (taken_past names y i past)) (below_many (known (taken names x) i))
 ]
+
+-- ---- what may be known
+
+pub rested_may : (ps : Places) (may : ℕ → ℕ → Bool) (shared : List Flat) → HasWhatMay (may_at ps.names.items may) shared → HasWhatMay may (rested ps.places.items shared)
+rested_may ps may shared has t n e = by (place_of ps.places.items t) refl (sym (known_rested ps.places.items shared t) ∙ e)
+  where
+    by : (p : Place) → place_of ps.places.items t ≡ p → at_rest shared p ≡ One n → may t n ≡ true
+    by Nowhere at e = absurd (one_or_many n e)
+    by (Own c j) at e = absurd (one_or_many n e)
+    by (Shared i) at e = subst (λ (k : ℕ). may k n ≡ true) (ps.are.given.named t i at).1 (has i n e)
+
+pub taken_may : (names : List ℕ) (may : ℕ → ℕ → Bool) (full : List Flat) → HasWhatMay may full → HasWhatMay (may_at names may) (taken names full)
+taken_may names may full has i n e = elim (cases_lt i (length names)) [
+  | inl lt ↦ has (slice_index_or names i 0) n (sym (known_taken names full i lt) ∙ e)
+  | inr past ↦ absurd (one_or_many n (sym (taken_past names full i past) ∙ e))
+]
+
+pub own_may : (ps : Places) (may : ℕ → ℕ → Bool) (row : List Flat × List Flat) → IsOwn ps may row → HasWhatMay may (rested ps.places.items row.0)
+own_may ps may row own = rested_may ps may row.0 own.0.1
+
+-- ---- what a block sees
+
+pub known_seen : (places : List Place) (b : ℕ) (row : List Flat × List Flat) (t : ℕ) → known (seen places b row) t ≡ at_place b row (place_of places t)
+known_seen places b row t = map_at (at_place b row) places t Nowhere
+
+-- of what is known in a block each temporary is at home there
+home_or_many : (b : ℕ) (row : List Flat × List Flat) (p : Place) (n : ℕ) → at_place b row p ≡ One n → IsPlaceIn b p
+home_or_many b row Nowhere n e = absurd (one_or_many n e)
+home_or_many b row (Own c j) n e = by (c == b) refl e
+  where
+    by : (d : Bool) → (c == b) ≡ d → (if d then known row.1 j else Many) ≡ One n → c ≡ b
+    by true e f = eqb-true c b e
+    by false e f = absurd (one_or_many n f)
+home_or_many b row (Shared i) n e = tt
+
+pub known_at_home : (places : List Place) (b : ℕ) (row : List Flat × List Flat) (t n : ℕ) → known (seen places b row) t ≡ One n → IsAtHome places b t
+known_at_home places b row t n e = inr (home_or_many b row (place_of places t) n (sym (known_seen places b row t) ∙ e))
 
 -- ---- what flows
 

@@ -1,14 +1,11 @@
 -- What a block sees of a row.
-use Rattle.std.specs.Prelude.{ℕ, ◌≡◌, Bool, Some, List, length, map, slice_index_or}
-use Rattle.pw_flow.specs.declared.flow.Op.{Op}
-use Rattle.pw_flow.specs.Uses.{op_defines}
+use Rattle.std.specs.Prelude.{ℕ, ◌≡◌, Bool, List, length, map, slice_index_or}
 use Rattle.pw_opt_rules.specs.declared.flat.Flat.{Flat}
 use Rattle.pw_opt_rules.specs.declared.flat.Flat.TheVariants.{Many}
 use Rattle.pw_opt_rules.specs.Rows.{known, IsRowBelow}
 use Rattle.pw_opt_places.specs.declared.places.Place.{Place}
 use Rattle.pw_opt_places.specs.declared.places.Place.TheVariants.{Nowhere, Own, Shared}
 use Rattle.pw_opt_places.specs.declared.places.Places.{Places}
-use Rattle.pw_opt_places.specs.Places.{IsAtHome}
 use Rattle.pw_opt_rows.specs.declared.view.View.{View}
 use Rattle.pw_opt_rows.specs.Joins.{IsOwnRow}
 use Rattle.pw_opt_rows.specs.Places.{at_place}
@@ -36,10 +33,6 @@ taken names row = map (known row) names
 -- a row has a place for each temporary
 abbrev pub IsRowOf : Places → List Flat × List Flat → Type 0
 IsRowOf ps row = (length row.0 ≡ length ps.names.items) × (length row.1 ≡ ps.own)
-
--- an operation defines what is at home in the block
-abbrev pub DefinesHere : View → Op → Type 0
-DefinesHere v o = (t : ℕ) → op_defines o ≡ Some t → IsAtHome v.places.now.places.items v.block t
 
 -- ---- rows as elements of a lattice
 

@@ -4,10 +4,10 @@ ghost use Rattle.std.specs.Prelude.{ℕ, ◌≡◌, ◌*◌, ◌<◌, List, [], 
 ghost use Rattle.pw_fix.specs.Solution.{AreDerived, Derivable, IsInflow, into as flows_into};
 ghost use Rattle.pw_opt_rules.specs.declared.flat.Flat.{Flat as FlatValue};
 ghost use Rattle.pw_opt_rules.specs.declared.flat.Flat.TheVariants.{Bottom, Many};
-ghost use Rattle.pw_opt_rules.specs.Rows.{behind, known};
-ghost use Rattle.pw_opt_places.specs.Places.{ArePlacesOf, DefineAtHome};
+ghost use Rattle.pw_opt_rules.specs.Rows.{behind};
+ghost use Rattle.pw_opt_places.specs.Places.{ArePlacesOf, DefinesAtHome, DefineAtHome};
 ghost use Rattle.pw_opt_rows.specs.Joins.{HasWhatMay};
-ghost use Rattle.pw_opt_rows.specs.Seeing.{IsRowOf, IsOwn, IsBelowShared, DefinesHere, seen_by};
+ghost use Rattle.pw_opt_rows.specs.Seeing.{IsRowOf, IsOwn, IsBelowShared, seen_by};
 ghost use Rattle.pw_opt_rows.specs.Outflows.{AreAbout, AreFronts, HasWays, IsOutflow, entered};
 
 use crate::edges::edges_of;
@@ -20,26 +20,22 @@ use pw_flow::{Block, FlowFn, Op};
 use pw_opt_places::Places;
 use std::alloc::{AllocError as NoMemory, Global};
 
-/// What is known at the front of a block into which a row flows from others: at the start all may be anything. Of what the
-/// block has for itself nothing is known.
-fn enter(places: &Places, block: usize, inflow: &Row, row: &mut Row)
+/// What is known at the front of a block into which a row flows from others: at the start all may be anything.
+fn enter(block: usize, inflow: &Row, row: &mut Row)
     requires { length row.old.0 ≡ length inflow.now.0 }
-    ensures shared { row.new.0 ≡ entered (length row.old.0) block inflow.now.0 }
-    ensures own { length row.new.1 ≡ length row.old.1 }
-    ensures nothing { (j : ℕ) → j < slice_index_or places.now.counts.items block 0 → known row.new.1 j ≡ Many }
+    ensures { row.new ≡ (entered (length row.old.0) block inflow.now.0, row.old.1) }
 {
     if block == 0 {
         row.set_many();
     } else {
         row.copy_from(inflow);
     }
-    row.renew(places.count(block));
 }
 
 /// What is known behind operations that follow one another, in place.
 fn follow_all<R: Rewriting>(rewriting: &R, view: &View<'_>, row: &mut Row, ops: &[Op])
     requires about { All (λ o. R.is_about rewriting.now o ≡ true) ops.now }
-    requires home { All (DefinesHere view.now) ops.now }
+    requires home { All (DefinesAtHome view.now.places.now.places.items view.now.block) ops.now }
     requires row { IsRowOf view.now.places.now row.old }
     requires may { HasWhatMay (R.may rewriting.now) (seen_by view.now row.old) }
     ensures behind { seen_by view.now row.new ≡ behind (R.rewriting rewriting.now).transfer (seen_by view.now row.old) ops.now }
@@ -82,7 +78,8 @@ impl<'a, R: Rewriting> Problem for Blocks<'a, R> {
             places: self.rows.places,
             block: node,
         };
-        enter(self.rows.places, node, inflow, out);
+        enter(node, inflow, out);
+        view.renew(out);
         follow_all(self.rows.rewriting, &view, out, self.blocks[node].ops.as_slice());
     }
 

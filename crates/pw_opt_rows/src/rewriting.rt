@@ -6,8 +6,9 @@ ghost use Rattle.pw_opt_rules.specs.declared.flat.Flat.{Flat as FlatValue};
 ghost use Rattle.pw_opt_rules.specs.Rewriting.{Rewriting as RewritingValue};
 ghost use Rattle.pw_opt_order.specs.Rises.{Rises};
 ghost use Rattle.pw_opt_order.specs.Reads.{ReadsOperands};
+ghost use Rattle.pw_opt_places.specs.Places.{DefinesAtHome};
 ghost use Rattle.pw_opt_rows.specs.Joins.{HasWhatMay};
-ghost use Rattle.pw_opt_rows.specs.Seeing.{IsRowOf, DefinesHere, seen_by};
+ghost use Rattle.pw_opt_rows.specs.Seeing.{IsRowOf, seen_by};
 
 use crate::row::Row;
 use crate::view::View;
@@ -28,7 +29,7 @@ pub trait Rewriting {
     /// Makes of what is known before an operation of a block what is known behind it, in place. Takes no memory.
     fn follow(&self, view: &View<'_>, row: &mut Row, op: &Op)
         requires about { is_about self.now op.now ≡ true }
-        requires home { DefinesHere view.now op.now }
+        requires home { DefinesAtHome view.now.places.now.places.items view.now.block op.now }
         requires row { IsRowOf view.now.places.now row.old }
         requires may { HasWhatMay (may self.now) (seen_by view.now row.old) }
         ensures seen { seen_by view.now row.new ≡ (rewriting self.now).transfer (seen_by view.now row.old) op.now }

@@ -79,7 +79,7 @@ impl Row {
     }
 
     /// Sets the first of a block's own places to Many.
-    pub fn renew(&mut self, count: usize)
+    pub(crate) fn renew(&mut self, count: usize)
         ensures shared { self.new.0 ≡ self.old.0 }
         ensures own { length self.new.1 ≡ length self.old.1 }
         ensures many { (j : ℕ) → j < count → known self.new.1 j ≡ Many }

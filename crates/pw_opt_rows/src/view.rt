@@ -3,7 +3,7 @@
 ghost use Rattle.std.specs.Prelude.{◌≡◌, slice_set};
 ghost use Rattle.pw_opt_rules.specs.Rows.{known};
 ghost use Rattle.pw_opt_places.specs.Places.{IsAtHome};
-ghost use Rattle.pw_opt_rows.specs.Seeing.{IsRowOf, seen_by};
+ghost use Rattle.pw_opt_rows.specs.Seeing.{IsRowOf, rested, seen_by};
 
 use crate::row::Row;
 use pw_opt_places::Places;
@@ -33,5 +33,14 @@ impl<'a> View<'a> {
         ensures row { IsRowOf self.now.places.now row.new }
     {
         row.set(self.places.at(t), to);
+    }
+
+    /// Forgets what is known of what the block has for itself.
+    pub fn renew(&self, row: &mut Row)
+        requires { IsRowOf self.now.places.now row.old }
+        ensures seen { seen_by self.now row.new ≡ rested self.now.places.now.places.items row.old.0 }
+        ensures row { IsRowOf self.now.places.now row.new }
+    {
+        row.renew(self.places.count(self.block));
     }
 }

@@ -1,13 +1,15 @@
 use Rattle.std.proofs.Common.{◌≡◌, ◌∙◌, true, sym, ap, subst}
+use Rattle.pw_opt_places.specs.Places.{DefinesAtHome}
 use Rattle.pw_opt_rows.specs.Joins.{HasWhatMay}
-use Rattle.pw_opt_rows.specs.Seeing.{DefinesHere, seen_by}
+use Rattle.pw_opt_rows.specs.Seeing.{seen_by}
 use Rattle.pw_opt_rows.proofs.Steps.{behind_more}
 use Rattle.pw_opt_rows.proofs.fronts.follow_all.Goals as goal
 
 pub follow-requires-clause-home : goal.follow-requires-clause-home
 follow-requires-clause-home g c =
+    let v = c.args.view.now in
     let o = c.op-item.result in
-    subst (DefinesHere c.args.view.now) (sym c.op-item.is) (c.requires.home c.loop-op.op-index o c.loop-op-test.true)
+    subst (DefinesAtHome v.places.now.places.items v.block) (sym c.op-item.is) (c.requires.home c.loop-op.op-index o c.loop-op-test.true)
 
 pub loop-op-preserved : goal.loop-op-preserved
 loop-op-preserved g c =

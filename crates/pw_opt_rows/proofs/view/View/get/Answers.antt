@@ -1,6 +1,6 @@
 use Rattle.std.proofs.Common.{◌∙◌, sym, ap}
 use Rattle.pw_opt_rows.specs.Places.{at_place}
-use Rattle.pw_opt_rows.proofs.Viewing.{known_seen}
+use Rattle.pw_opt_rows.specs.RowLaws.{known_seen}
 use Rattle.pw_opt_rows.proofs.view.View.get.Goals as goal
 
 pub returns : goal.returns
