@@ -1,9 +1,9 @@
 -- Places, given to one temporary after the other.
-use Rattle.std.specs.Prelude.{ℕ, zero, suc, ◌≡◌, ◌≢◌, ◌⊎◌, ◌+◌, ◌<◌, ◌≤◌, ◌++◌, Some, List, [], ◌∷◌, All, length, replicate, slice_get, slice_set, slice_index_or, Contains}
+use Rattle.std.specs.Prelude.{ℕ, zero, suc, ◌≡◌, ◌≢◌, ◌⊎◌, ◌+◌, ◌<◌, ◌≤◌, ◌++◌, Some, List, [], ◌∷◌, All, length, take, replicate, slice_get, slice_set, slice_index_or, Contains}
 use Rattle.std.proofs.Common.{refl, sym, ap, subst, ◌∙◌, arith, inl, inr}
 use Rattle.std.proofs.lemmas.Bool.{cases_lt, cases_eq}
 use Rattle.std.proofs.lemmas.List.{get_or-set_same, get_or-set_other, get_or_past, length-replicate}
-use Rattle.std.proofs.lemmas.List.Elements.{Contains-get_or}
+use Rattle.std.proofs.lemmas.List.Elements.{Contains-get_or, All-more, All-weaker}
 use Rattle.pw_flow.specs.declared.flow.Op.{Op}
 use Rattle.pw_flow.specs.declared.flow.Block.{Block}
 use Rattle.pw_flow.specs.declared.flow.FlowFn.{FlowFn}
@@ -185,6 +185,10 @@ pub place_fits : (h : Home) (names counts : List ℕ) → IsPlaceFor h (place_fo
 place_fits home.Nowhere names counts = refl
 place_fits (home.At b) names counts = (slice_index_or counts b 0, refl)
 place_fits home.Everywhere names counts = (length names, refl)
+
+pub greatest_more : (numbers : List ℕ) (i old new : ℕ) → i < length numbers → All (λ n. n ≤ old) (take i numbers) → old ≤ new → slice_index_or numbers i 0 ≤ new → All (λ n. n ≤ new) (take (i + 1) numbers)
+greatest_more numbers i old new lt before up here =
+    All-more (λ n. n ≤ new) numbers i 0 lt (All-weaker (λ n. n ≤ old) (λ n. n ≤ new) (λ n le. omega (arith, le, up)) (take i numbers) before) here
 
 pub greatest_few : (counts : List ℕ) (most : ℕ) → All (λ n. n ≤ most) counts → (b : ℕ) → slice_index_or counts b 0 ≤ most
 greatest_few counts most all b = elim (cases_lt b (length counts)) [

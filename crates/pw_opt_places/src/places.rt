@@ -123,13 +123,21 @@ impl Given {
     }
 }
 
+/// The larger of two numbers.
+fn larger(a: usize, b: usize) -> usize
+    ensures first { a ≤ result }
+    ensures second { b ≤ result }
+{
+    if a < b { b } else { a }
+}
+
 /// The greatest of some numbers, or 0.
 fn greatest(numbers: &[usize]) -> usize
     ensures { All (λ n. n ≤ result) numbers.now }
 {
     let mut most = 0;
     for &n in numbers {
-        most = most.max(n);
+        most = larger(most, n);
     }
     most
 }
@@ -182,6 +190,13 @@ impl Places {
         } else {
             Place::Nowhere
         }
+    }
+
+    /// How many go from block to block.
+    pub fn shared(&self) -> usize
+        ensures { result ≡ length self.now.names.items }
+    {
+        self.names.len()
     }
 
     /// How many a block has for itself.

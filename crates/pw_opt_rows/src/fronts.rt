@@ -84,7 +84,7 @@ impl<'a, R: Rewriting> Problem for Blocks<'a, R> {
     }
 
     fn height(&self) -> u64 {
-        2 * self.rows.places.names.len() as u64
+        2 * self.rows.places.shared() as u64
     }
 
     ghost monotone = { λ p n x y a b _ _ _ _ _. outflows_rise (R.rewriting p.rows.rewriting.now).transfer (R.rises p.rows.rewriting.now) p.rows.places.now p.blocks.now n x y a b };
@@ -99,7 +99,7 @@ fn bottoms(alloc: Global, count: usize, places: &Places) -> Result<Vec<Row>, NoM
 {
     let mut rows = Vec::with_capacity(alloc, count)?;
     for _ in 0..count {
-        rows.push(Row::bottom(alloc, places.names.len(), places.own)?)?;
+        rows.push(Row::bottom(alloc, places.shared(), places.own)?)?;
     }
     Ok(rows)
 }

@@ -28,7 +28,8 @@ impl<'a, R: Rewriting> Lattice for FlatRows<'a, R> {
     ghost rank = { λ _ row. row_rank row.0 };
 
     fn bottom(&self, alloc: Global) -> Result<Row, NoMemory> {
-        Row::bottom(alloc, self.places.names.len(), self.places.own)
+        let row = Row::bottom(alloc, self.places.shared(), self.places.own)?;
+        Ok(row)
     }
 
     fn join(&self, into: &mut Row, from: &Row) -> bool {

@@ -2,4 +2,4 @@ use Rattle.std.proofs.Common.{◌∙◌, sym}
 use Rattle.pw_opt_copies.proofs.copies.CopiersRewriting.follow.Goals as goal
 
 pub set-requires-clause-home : goal.set-requires-clause-home
-set-requires-clause-home c = c.requires.home c.t (sym c.op_defines.ensures ∙ c.if-let-op_defines.some)
+set-requires-clause-home c = c.requires.home c.in-Some.t (sym c.op_defines.ensures ∙ c.in-Some.is)
