@@ -1,6 +1,6 @@
 //! Rows of what is known.
 
-ghost use Rattle.std.specs.Prelude.{ℕ, ◌≡◌, ◌<◌, ◌↔◌, length, replicate, slice_set, IsTrue, IfOk};
+ghost use Rattle.std.specs.Prelude.{ℕ, ◌≡◌, ◌<◌, ◌≤◌, ◌↔◌, length, replicate, slice_set, IsTrue, IfOk};
 ghost use Rattle.std.specs.Bool.{OnTrue, OnFalse};
 ghost use Rattle.pw_opt_rules.specs.declared.flat.Flat.TheVariants.{Bottom, Many};
 ghost use Rattle.pw_opt_rules.specs.Rows.{known, IsRowBelow};
@@ -80,6 +80,7 @@ impl Row {
 
     /// Sets the first of a block's own places to Many.
     pub(crate) fn renew(&mut self, count: usize)
+        requires { count ≤ length self.old.1 }
         ensures shared { self.new.0 ≡ self.old.0 }
         ensures own { length self.new.1 ≡ length self.old.1 }
         ensures many { (j : ℕ) → j < count → known self.new.1 j ≡ Many }
@@ -130,10 +131,11 @@ fn set_flat(flats: &mut [Flat], place: usize, to: Flat)
 
 /// Sets the first places to Many.
 fn make_many(flats: &mut [Flat], count: usize)
+    requires { count ≤ length flats.old }
     ensures length { length flats.new ≡ length flats.old }
     ensures many { (j : ℕ) → j < count → known flats.new j ≡ Many }
 {
-    for place in 0..count.min(flats.len()) {
+    for place in 0..count {
         flats[place] = Flat::Many;
     }
 }

@@ -28,3 +28,11 @@ loop-t-preserved c =
       blocks = c.in_ok-give.ensures.place.1 ∙ inv.blocks;
       places = subst (ArePlacesFor (t + 1) homes) (sym c.in_ok-give.ensures.place.0) (for_more t homes g.places.items place inv.places fits);
     }
+
+pub give-requires-clause-next : goal.give-requires-clause-next
+give-requires-clause-next c = sym c.loop-t.invariant.places.0
+
+pub returns : goal.returns
+returns c =
+    let inv = c.loop-t.invariant in
+    record { are = inv.are; places = subst (λ n. ArePlacesFor n c.args.homes.now c.loop-t.self.places.items) (omega arith) inv.places }
