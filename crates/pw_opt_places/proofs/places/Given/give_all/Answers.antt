@@ -35,4 +35,5 @@ give-requires-clause-next c = sym c.loop-t.invariant.places.0
 pub returns : goal.returns
 returns c =
     let inv = c.loop-t.invariant in
-    record { are = inv.are; places = subst (λ n. ArePlacesFor n c.args.homes.now c.loop-t.self.places.items) (omega arith) inv.places }
+    let all : c.loop-t.t ≡ c.args.temps = omega arith in
+    record { are = inv.are; places = subst (λ n. ArePlacesFor n c.args.homes.now c.loop-t.self.places.items) all inv.places }
