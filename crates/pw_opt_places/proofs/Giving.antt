@@ -99,12 +99,16 @@ share_given places names counts n next g = record {
   where
     more : length (names ++ n ∷ []) ≡ suc (length names)
     more = pushed_long names n
+
     last_name : slice_index_or (names ++ n ∷ []) (length names) 0 ≡ n
     last_name = elim (pushed_at names n 0 (length names)) [ inl w ↦ w.1 | inr w ↦ absurd (w.0 refl) ]
+
     own_name : (t i : ℕ) → length names ≡ i → t ≡ length places → slice_index_or (names ++ n ∷ []) i 0 ≡ t
     own_name t i same here = ap (λ (k : ℕ). slice_index_or (names ++ n ∷ []) k 0) (sym same) ∙ last_name ∙ next ∙ sym here
+
     other_name : (i : ℕ) → i < length names → slice_index_or (names ++ n ∷ []) i 0 ≡ slice_index_or names i 0
     other_name i low = elim (pushed_at names n 0 i) [ inl w ↦ absurd (let here = w.0 in omega (arith, low, here)) | inr w ↦ w.1 ]
+
     placed_last : place_of (places ++ (Shared (length names)) ∷ []) (slice_index_or (names ++ n ∷ []) (length names) 0) ≡ (Shared (length names))
     placed_last = ap (place_of (places ++ (Shared (length names)) ∷ [])) last_name ∙ elim (pushed_at places (Shared (length names)) Nowhere n) [ inl w ↦ w.1 | inr w ↦ absurd (w.0 next) ]
 
@@ -135,19 +139,24 @@ own_given places names counts b low g = record {
   where
     here : slice_index_or (slice_set counts b ((slice_index_or counts b 0) + 1)) b 0 ≡ (slice_index_or counts b 0) + 1
     here = get_or-set_same counts b ((slice_index_or counts b 0) + 1) 0 low
+
     own_block : (c j : ℕ) → (Own b (slice_index_or counts b 0)) ≡ Own c j → b ≡ c
     own_block c j e = cc
+
     own_number : (c j : ℕ) → (Own b (slice_index_or counts b 0)) ≡ Own c j → (slice_index_or counts b 0) ≡ j
     own_number c j e = cc
+
     own_within : (c j : ℕ) → (Own b (slice_index_or counts b 0)) ≡ Own c j → j < slice_index_or (slice_set counts b ((slice_index_or counts b 0) + 1)) c 0
     own_within c j e =
         let same : (slice_index_or counts b 0) ≡ j = own_number c j e in
         subst (λ k. j < slice_index_or (slice_set counts b ((slice_index_or counts b 0) + 1)) k 0) (own_block c j e) (omega (arith, here, same))
+
     counted_up : (c : ℕ) → slice_index_or counts c 0 ≤ slice_index_or (slice_set counts b ((slice_index_or counts b 0) + 1)) c 0
     counted_up c = elim (cases_eq c b) [
       | inl same ↦ subst (λ k. slice_index_or counts k 0 ≤ slice_index_or (slice_set counts b ((slice_index_or counts b 0) + 1)) k 0) (sym same) (omega (arith, here))
       | inr other ↦ let stays = get_or-set_other counts b c ((slice_index_or counts b 0) + 1) 0 other in omega (arith, stays)
     ]
+
     counted_few : (c : ℕ) → slice_index_or (slice_set counts b ((slice_index_or counts b 0) + 1)) c 0 ≤ length (places ++ (Own b (slice_index_or counts b 0)) ∷ [])
     counted_few c =
         let long = pushed_long places (Own b (slice_index_or counts b 0)) in
@@ -155,6 +164,7 @@ own_given places names counts b low g = record {
           | inl same ↦ subst (λ k. slice_index_or (slice_set counts b ((slice_index_or counts b 0) + 1)) k 0 ≤ length (places ++ (Own b (slice_index_or counts b 0)) ∷ [])) (sym same) (let le = g.fewer b in omega (arith, here, le, long))
           | inr other ↦ let stays = get_or-set_other counts b c ((slice_index_or counts b 0) + 1) 0 other in let le = g.fewer c in omega (arith, stays, le, long)
         ]
+
     no_two : (c j : ℕ) → (Own b (slice_index_or counts b 0)) ≡ Own c j → (t : ℕ) → place_of places t ≡ Own c j → ⊥
     no_two c j e t old =
         let lt : j < slice_index_or counts c 0 = g.within t c j old in
@@ -248,5 +258,6 @@ places_of_function f homes places is are = record {
   where
     long : length (homes_of f) ≡ f.temps
     long = blocks_long 0 (replicate f.temps home.Nowhere) f.blocks ∙ length-replicate f.temps home.Nowhere
+
     serve : (b : ℕ) (block : Block) → slice_get f.blocks b ≡ Some block → Serves b block (homes_of f)
     serve b block at = blocks_serve 0 b b (replicate f.temps home.Nowhere) f.blocks block (omega arith) (none_below f.temps) at

@@ -23,7 +23,12 @@ pub fn original(view: &View<'_>, row: &Row, a: u32) -> u32
 }
 
 /// What stands for each of several operands.
-fn originals(alloc: Global, view: &View<'_>, row: &Row, args: &[u32]) -> Result<Items<u32>, NoMemory>
+fn originals(
+    alloc: Global,
+    view: &View<'_>,
+    row: &Row,
+    args: &[u32],
+) -> Result<Items<u32>, NoMemory>
     ensures { IfOk result (λ v. v ≡ map (original (seen_by view.now row.now)) args.now) }
 {
     let mut new = Items::new(alloc);
@@ -34,7 +39,14 @@ fn originals(alloc: Global, view: &View<'_>, row: &Row, args: &[u32]) -> Result<
 }
 
 /// A call of a function by its name.
-fn call(alloc: Global, view: &View<'_>, row: &Row, t: Option<u32>, f: &Name, args: &[u32]) -> Result<Op, NoMemory>
+fn call(
+    alloc: Global,
+    view: &View<'_>,
+    row: &Row,
+    t: Option<u32>,
+    f: &Name,
+    args: &[u32],
+) -> Result<Op, NoMemory>
     ensures { IfOk result (λ o. o ≡ op.Call t f.now (map (original (seen_by view.now row.now)) args.now)) }
 {
     let args = originals(alloc, view, row, args)?;
@@ -72,7 +84,14 @@ fn read(alloc: Global, t: u32, g: &Name, k: Kind) -> Result<Op, NoMemory>
 }
 
 /// A write of an object.
-fn write(alloc: Global, view: &View<'_>, row: &Row, g: &Name, a: u32, k: Kind) -> Result<Op, NoMemory>
+fn write(
+    alloc: Global,
+    view: &View<'_>,
+    row: &Row,
+    g: &Name,
+    a: u32,
+    k: Kind,
+) -> Result<Op, NoMemory>
     ensures { IfOk result (λ o. o ≡ op.StoreG g.now (original (seen_by view.now row.now) a) k) }
 {
     Ok(Op::StoreG(g.copy(alloc)?, original(view, row, a), k))
@@ -86,7 +105,12 @@ pub fn with_originals(alloc: Global, view: &View<'_>, row: &Row, op: &Op) -> Res
         Op::Const(t, n) => Ok(Op::Const(*t, *n)),
         Op::Copy(t, a) => Ok(Op::Copy(*t, original(view, row, *a))),
         Op::Un(k, t, a) => Ok(Op::Un(*k, *t, original(view, row, *a))),
-        Op::Bin(k, t, a, b) => Ok(Op::Bin(*k, *t, original(view, row, *a), original(view, row, *b))),
+        Op::Bin(k, t, a, b) => Ok(Op::Bin(
+            *k,
+            *t,
+            original(view, row, *a),
+            original(view, row, *b),
+        )),
         Op::Ext(k, t, a) => Ok(Op::Ext(*k, *t, original(view, row, *a))),
         Op::AddrGlobal(t, g, n) => address(alloc, *t, g, *n),
         Op::AddrSlot(t, s) => Ok(Op::AddrSlot(*t, *s)),
@@ -102,7 +126,15 @@ pub fn with_originals(alloc: Global, view: &View<'_>, row: &Row, op: &Op) -> Res
             *unit,
         )),
         Op::Call(t, f, args) => call(alloc, view, row, *t, f, args.as_slice()),
-        Op::CallInd(t, a, shape, args) => call_through(alloc, view, row, *t, *a, shape, args.as_slice()),
+        Op::CallInd(t, a, shape, args) => call_through(
+            alloc,
+            view,
+            row,
+            *t,
+            *a,
+            shape,
+            args.as_slice(),
+        ),
     }
 }
 

@@ -24,6 +24,7 @@ own_number b c j k row x home other = by (b == b)
   where
     apart : k ≢ j
     apart same = other (ap (λ (d : ℕ). Own d j) home ∙ ap (Own b) (sym same))
+
     by : (d : Bool) → (if d then known (slice_set row.1 j x) k else Many) ≡ (if d then known row.1 k else Many)
     by true = get_or-set_other row.1 j k x Many apart
     by false = refl
@@ -85,10 +86,12 @@ seen_set ps b row t x is home =
   where
     long : length (slice_set (seen ps.places.items b row) t x) ≡ length ps.places.items
     long = length-set (seen ps.places.items b row) t x ∙ seen_long ps.places.items b row
+
     here : t < length ps.places.items → at_place b (with_place row (place_of ps.places.items t) x) (place_of ps.places.items t) ≡ known (slice_set (seen ps.places.items b row) t x) t
     here lt =
         this_set ps b row x (place_of ps.places.items t) is (home_of ps.places.items b t home lt) (within ps b t (place_of ps.places.items t) refl)
         ∙ sym (get_or-set_same (seen ps.places.items b row) t x Many (let n = seen_long ps.places.items b row in omega (arith, lt, n)))
+
     stays : (u : ℕ) → u ≢ t → at_place b (with_place row (place_of ps.places.items t) x) (place_of ps.places.items u) ≡ at_place b row (place_of ps.places.items u)
     stays u other = elim (cases_lt t (length ps.places.items)) [
       | inl lt ↦
@@ -96,6 +99,7 @@ seen_set ps b row t x is home =
           other_stays b row x (place_of ps.places.items t) (place_of ps.places.items u) home_t (λ e. other (sym (one_place ps b t u (place_of ps.places.items t) refl (sym e) home_t)))
       | inr past ↦ ap (λ (p : Place). at_place b (with_place row p x) (place_of ps.places.items u)) (get_or_past ps.places.items t Nowhere past)
     ]
+
     there : (u : ℕ) → u < length ps.places.items → u ≢ t → at_place b (with_place row (place_of ps.places.items t) x) (place_of ps.places.items u) ≡ known (slice_set (seen ps.places.items b row) t x) u
     there u lt other = stays u other ∙ sym (known_seen ps.places.items b row u) ∙ sym (get_or-set_other (seen ps.places.items b row) t u x Many other)
 
@@ -117,6 +121,7 @@ fresh_seen ps b row nothing =
     own : (c j t : ℕ) → place_of ps.places.items t ≡ Own c j → (d : Bool) → (c == b) ≡ d → (if d then known row.1 j else Many) ≡ Many
     own c j t e true f = nothing j (subst (λ (k : ℕ). j < slice_index_or ps.counts.items k 0) (eqb-true c b f) (ps.are.given.within t c j e))
     own c j t e false f = refl
+
     by : (p : Place) (t : ℕ) → place_of ps.places.items t ≡ p → at_place b row p ≡ at_rest row.0 p
     by Nowhere t e = refl
     by (Own c j) t e = own c j t e (c == b) refl

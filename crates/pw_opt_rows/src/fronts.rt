@@ -80,7 +80,12 @@ impl<'a, R: Rewriting> Problem for Blocks<'a, R> {
         };
         enter(node, inflow, out);
         view.renew(out);
-        follow_all(self.rows.rewriting, &view, out, self.blocks[node].ops.as_slice());
+        follow_all(
+            self.rows.rewriting,
+            &view,
+            out,
+            self.blocks[node].ops.as_slice(),
+        );
     }
 
     fn height(&self) -> u64 {

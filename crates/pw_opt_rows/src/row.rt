@@ -47,7 +47,13 @@ impl Row {
     {
         match place {
             Place::Nowhere => Flat::Many,
-            Place::Own(b, at) => { if b == block { flat_at(&self.own, at) } else { Flat::Many } }
+            Place::Own(b, at) => {
+                if b == block {
+                    flat_at(&self.own, at)
+                } else {
+                    Flat::Many
+                }
+            }
             Place::Shared(at) => flat_at(&self.shared, at),
         }
     }

@@ -25,9 +25,10 @@ pub renew-requires : goal.renew-requires
 renew-requires g c =
     let names = c.args.self.now.rows.places.now.names.items in
     let row = c.enter.new.row in
-    let front = entered_first row c.args.out.now (length names) c.args.node c.args.inflow.now.0 c.enter.ensures c.requires.out.0.0 in
-    (ap (λ (x : List Flat). length x) front ∙ entered_long (length names) c.args.node c.args.inflow.now.0 c.requires.inflow.0.0,
-    ap (λ (x : List Flat × List Flat). length x.1) c.enter.ensures ∙ c.requires.out.1)
+    let front = entered_first row c.args.out.now (length names) c.args.node c.args.inflow.now.0 c.enter.ensures c.requires.out.0.0 in (
+      ap (λ (x : List Flat). length x) front ∙ entered_long (length names) c.args.node c.args.inflow.now.0 c.requires.inflow.0.0,
+      ap (λ (x : List Flat × List Flat). length x.1) c.enter.ensures ∙ c.requires.out.1,
+    )
 
 pub follow_all-requires-clause-home : goal.follow_all-requires-clause-home
 follow_all-requires-clause-home g c =
