@@ -1,5 +1,6 @@
 use Rattle.std.proofs.Common.{◌≡◌, ◌∙◌, List, sym, ap, subst}
 use Rattle.pw_flow.specs.declared.flow.Block.{Block}
+use Rattle.pw_opt_rules.specs.declared.flat.Flat.{Flat}
 use Rattle.pw_opt_places.specs.Places.{DefineAtHome}
 use Rattle.pw_opt_rules.specs.Rewriting.{rewritten_blocks, with_blocks}
 use Rattle.pw_opt_rows.specs.Outflows.{all_rested}
@@ -17,6 +18,8 @@ returns g c =
     let f = c.args.f.now in
     let fronts = c.in_ok-fronts.fronts.items in
     let facts = c.in_ok-fronts.ensures in
-    let blocks = c.in_ok-blocks.ensures ∙ ap (λ (bs : List Block). rewritten_blocks w (all_rested ps fronts) bs) c.as_slice.ensures in
+    let blocks = c.in_ok-blocks.ensures
+    ∙ ap (λ (rows : List (List Flat × List Flat)). rewritten_blocks w (all_rested ps rows) c.as_slice.result.now) c.deref_mut.ensures.value
+    ∙ ap (λ (bs : List Block). rewritten_blocks w (all_rested ps fronts) bs) c.as_slice.ensures in
     rewritten_within w (g.met.R.Rewriting.rises r) (g.met.R.Rewriting.reads r) (g.R.Rewriting.may r) ps f c.in_ok-places.ensures fronts facts.known c.in_ok-new.new facts.own
     (c.in_ok-new.ensures ∙ ap (with_blocks f) blocks)

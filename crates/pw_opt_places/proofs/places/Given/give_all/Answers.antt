@@ -1,4 +1,4 @@
-use Rattle.std.proofs.Common.{◌≡◌, ◌∙◌, ◌+◌, List, length, refl, sym, ap, subst}
+use Rattle.std.proofs.Common.{◌≡◌, ◌∙◌, ◌+◌, List, length, refl, sym, ap, subst, arith}
 use Rattle.pw_opt_places.specs.declared.places.Place.{Place}
 use Rattle.pw_opt_places.specs.Homes.{home_of}
 use Rattle.pw_opt_places.specs.Giving.{IsHomeBelow, IsPlaceFor, ArePlacesFor, place_for}
@@ -35,5 +35,5 @@ give-requires-clause-next c = sym c.loop-t.invariant.places.0
 pub returns : goal.returns
 returns c =
     let inv = c.loop-t.invariant in
-    let all : c.loop-t.t ≡ c.args.temps = omega arith in
+    let all : c.loop-t.t ≡ c.args.temps = omega (arith, c.loop-t-test.false, c.loop-t.auto.t-end) in
     record { are = inv.are; places = subst (λ n. ArePlacesFor n c.args.homes.now c.loop-t.self.places.items) all inv.places }
