@@ -10,7 +10,7 @@ use Rattle.pw_opt_rules.specs.Copies.{copy_transfer, copies}
 use Rattle.pw_opt_rules.specs.Dead.{without_dead}
 use Rattle.pw_opt_rules.specs.Optimised.{optimise_limit, IsOptimised, stays, steps, AreOptimised, none, also, IsOptimisedModule}
 use Rattle.pw_opt_order.specs.Rises.{Rises}
-use Rattle.pw_law_opt_answers.proofs.Solving.{least_exists}
+use Rattle.pw_opt_rows.proofs.Solving.{least_exists}
 
 rewritten : (w : Rewriting) → Rises w.transfer → (f : FlowFn) → (g : FlowFn) × IsRewritten w f g
 rewritten w r f = let s = least_exists w.transfer r f in (with_blocks f (rewritten_blocks w s.0 f.blocks), record { rows = s.0; known = s.1; is = refl })

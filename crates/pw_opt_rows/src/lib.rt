@@ -8,7 +8,9 @@ mod fronts;
 mod rewriting;
 mod row;
 mod rows;
+mod view;
 
 pub use fronts::find_fronts;
 pub use rewriting::Rewriting;
 pub use row::Row;
+pub use view::View;
