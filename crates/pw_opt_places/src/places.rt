@@ -75,8 +75,9 @@ impl Given {
         ensures place { OnOk result (HasPlace self.old self.new (place.Own block (slice_index_or self.old.counts.items block 0))) }
     {
         let number = self.counts[block];
+        let next = number + 1;
         self.places.push(Place::Own(block, number))?;
-        self.counts[block] = number + 1;
+        self.counts[block] = next;
         Ok(())
     }
 

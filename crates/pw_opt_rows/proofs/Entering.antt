@@ -4,19 +4,17 @@ use Rattle.std.proofs.Common.{set, refl, sym, ap, ◌∙◌, arith, inl, inr}
 use Rattle.std.proofs.lemmas.Bool.{cases_lt, ne_eqb}
 use Rattle.std.proofs.lemmas.List.{get_or_past, get_or-replicate, length-replicate}
 use Rattle.pw_opt_rules.specs.declared.flat.Flat.{Flat}
-use Rattle.pw_opt_rules.specs.declared.flat.Flat.TheVariants.{One, Many}
+use Rattle.pw_opt_rules.specs.declared.flat.Flat.TheVariants.{Many}
 use Rattle.pw_opt_rules.specs.Rows.{known}
 use Rattle.pw_opt_rows.specs.Joins.{HasWhatMay, IsOwnRow}
 use Rattle.pw_opt_rows.specs.Outflows.{entered}
+use Rattle.pw_opt_rows.specs.RowLaws.{one_or_many}
 
 pub all_many : (count t : ℕ) → known (replicate count Many) t ≡ Many
 all_many count t = elim (cases_lt t count) [
   | inl lt ↦ get_or-replicate count t Many Many lt
   | inr ge ↦ let size : length (replicate count Many) ≡ count = length-replicate count Many in get_or_past (replicate count Many) t Many (omega (arith, ge, size))
 ]
-
-one_or_many : (n : ℕ) → ◌≡◌ {A = Flat} Many (One n) → ⊥
-one_or_many n e = cc
 
 many_may : (may : ℕ → ℕ → Bool) (count : ℕ) → HasWhatMay may (replicate count Many)
 many_may may count t n e = absurd (one_or_many n (sym (all_many count t) ∙ e))

@@ -5,5 +5,5 @@ mod Ways
 mod Gathering
 mod Steps
 mod Entering
-pub mod Solving
+mod Solving
 mod Least

@@ -17,6 +17,7 @@ use Rattle.pw_opt_rules.specs.Rows.{known, IsRowBelow, behind, front, IsSolution
 use Rattle.pw_opt_order.specs.Rises.{Rises}
 use Rattle.pw_opt_order.specs.Order.{below_many, below_through, behind_rises}
 use Rattle.pw_opt_rows.specs.Joins.{joined, flat_rank}
+use Rattle.pw_opt_rows.proofs.Joining.{least_above}
 
 -- ---- lists by their places
 
@@ -123,18 +124,6 @@ all_or P (y ∷ ys) each = elim (each y (0, omega arith, refl)) [
 ]
 
 -- ---- joins
-
--- below whatever both are below
-least_above : (x y w : Flat) → IsBelow x w → IsBelow y w → IsBelow (joined x y) w
-least_above Bottom y w a b = b
-least_above (One m) Bottom w a b = a
-least_above (One m) (One n) Bottom a b = absurd a
-least_above (One m) (One n) (One k) a b = subst (λ (c : Bool). IsBelow (if c then One m else Many) (One k)) (sym (eq-eqb m n (a ∙ sym b))) a
-least_above (One m) (One n) Many a b = below_many (joined (One m) (One n))
-least_above (One m) Many Bottom a b = absurd a
-least_above (One m) Many (One k) a b = absurd b
-least_above (One m) Many Many a b = tt
-least_above Many y w a b = a
 
 -- no lower in rank
 rank_joined : (x y : Flat) → flat_rank x ≤ flat_rank (joined x y)

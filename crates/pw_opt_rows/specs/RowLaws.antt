@@ -30,7 +30,7 @@ rows_order ps may = record {
   transitive = λ a b c _ _ _ f g t. below_through (known a.0 t) (known b.0 t) (known c.0 t) (f t) (g t);
 }
 
-one_or_many : (n : ℕ) → ◌≡◌ {A = Flat} Many (One n) → ⊥
+pub one_or_many : (n : ℕ) → ◌≡◌ {A = Flat} Many (One n) → ⊥
 one_or_many n e = cc
 
 -- ---- what is known of shared temporaries
