@@ -33,7 +33,7 @@ none_given blocks = record {
   placed = λ i lt. absurd (omega (arith, lt));
   within = λ t b j e. absurd cc;
   apart = λ t u b j e f. absurd cc;
-  fewer = λ b. let none = all_alike blocks b 0 in omega (arith, none);
+  fewer = λ b. let none = all_alike {X = ℕ} blocks b 0 in omega (arith, none);
 }
 
 -- a shared one stays at its place where one is added
