@@ -9,7 +9,7 @@ use Rattle.pw_opt_rules.specs.declared.flat.Flat.TheVariants.{Many}
 use Rattle.pw_opt_places.specs.declared.places.Places.{Places}
 use Rattle.pw_opt_places.specs.Places.{DefineAtHome}
 use Rattle.pw_opt_rows.specs.Seeing.{may_at, IsOwn, IsBelowShared}
-use Rattle.pw_opt_rows.specs.Outflows.{HasWays, IsOutflow, IsEdge, AreFronts}
+use Rattle.pw_opt_rows.specs.Outflows.{HasWays, IsOutflow, IsEdge, AreAbout, AreFronts}
 use Rattle.pw_opt_rows.proofs.Entering.{many_own}
 use Rattle.pw_opt_rows.proofs.Ways.{edges_inside}
 use Rattle.pw_opt_rows.proofs.Least.{solves}
@@ -26,6 +26,12 @@ inside blocks own edges is ways exact =
 pub invariant_of-graph : goal.invariant_of-graph
 invariant_of-graph g c =
     record { within = inside c.as_slice-blocks.result.now c.args.f.now.blocks c.in_ok-edges.edges.items c.as_slice-blocks.ensures c.requires.ways c.in_ok-edges.ensures }
+
+pub invariant_of-problem : goal.invariant_of-problem
+invariant_of-problem g c = record {
+  about = subst (All (AreAbout (g.R.Rewriting.is_about c.args.rewriting.now))) (sym c.as_slice-blocks.ensures) c.requires.about;
+  home = subst (DefineAtHome c.args.places.now.places.items) (sym c.as_slice-blocks.ensures) c.requires.places.home;
+}
 
 pub gather-requires-clause-edges : goal.gather-requires-clause-edges
 gather-requires-clause-edges g c =
