@@ -1,23 +1,20 @@
 -- Places, given to one temporary after the other.
-use Rattle.std.specs.Prelude.{ℕ, zero, suc, ◌≡◌, ◌≢◌, ◌⊎◌, ◌+◌, ◌<◌, ◌≤◌, ◌++◌, Some, List, [], ◌∷◌, All, length, take, replicate, slice_get, slice_set, slice_index_or, Contains}
+use Rattle.std.specs.Prelude.{ℕ, zero, suc, ◌≡◌, ◌≢◌, ◌+◌, ◌<◌, ◌≤◌, ◌++◌, Some, List, [], ◌∷◌, All, length, take, replicate, slice_get, slice_set, slice_index_or}
 use Rattle.std.proofs.Common.{refl, sym, ap, subst, ◌∙◌, arith, inl, inr}
 use Rattle.std.proofs.lemmas.Bool.{cases_lt, cases_eq}
 use Rattle.std.proofs.lemmas.List.{get_or-set_same, get_or-set_other, get_or_past, length-replicate}
 use Rattle.std.proofs.lemmas.List.Elements.{Contains-get_or, All-more, All-weaker}
-use Rattle.pw_flow.specs.declared.flow.Op.{Op}
 use Rattle.pw_flow.specs.declared.flow.Block.{Block}
 use Rattle.pw_flow.specs.declared.flow.FlowFn.{FlowFn}
-use Rattle.pw_flow.specs.Uses.{op_defines, end_uses}
-use Rattle.pw_opt_order.specs.Reads.{ReadsFirst}
 use Rattle.pw_opt_places.specs.declared.homes.Home.{Home}
 use Rattle.pw_opt_places.specs.declared.homes.Home.TheVariants as home
 use Rattle.pw_opt_places.specs.declared.places.Place.{Place}
 use Rattle.pw_opt_places.specs.declared.places.Place.TheVariants.{Nowhere, Own, Shared}
 use Rattle.pw_opt_places.specs.Homes.{home_of, homes_of}
-use Rattle.pw_opt_places.specs.Places.{place_of, IsShared, IsPlaceIn, IsAtHome, AreGiven, ArePlacesOf}
+use Rattle.pw_opt_places.specs.Places.{place_of, IsShared, IsPlaceIn, AreGiven, ArePlacesOf}
 use Rattle.pw_opt_places.specs.Giving.{IsHomeBelow, IsPlaceFor, ArePlacesFor, place_for}
 use Rattle.pw_opt_places.proofs.Listing.{pushed_at, pushed_long, all_alike}
-use Rattle.pw_opt_places.proofs.Homing.{IsIn, Below, Serves, none_below, blocks_below, blocks_long, blocks_serve}
+use Rattle.pw_opt_places.proofs.Homing.{IsIn, Serves, none_below, blocks_below, blocks_long, blocks_serve}
 
 -- ---- what is somewhere is not past the end
 

@@ -1,18 +1,17 @@
 -- Rows that have of shared temporaries what the least solution has make the same of a function.
-use Rattle.std.specs.Prelude.{ℕ, suc, ◌≡◌, ◌<◌, ◌≤◌, Bool, Some, List, [], ◌∷◌, All, length, map, slice_get, slice_index_or}
+use Rattle.std.specs.Prelude.{ℕ, suc, ◌≡◌, ◌<◌, Bool, Some, List, [], ◌∷◌, All, length, slice_get, slice_index_or}
 use Rattle.std.proofs.Common.{refl, sym, ap, ◌∙◌, arith, inl, inr}
 use Rattle.std.proofs.lemmas.List.{get_or-map, get_or_past, length-map}
 use Rattle.std.proofs.lemmas.List.Elements.{All-map, All-weaker}
 use Rattle.std.proofs.lemmas.Option.{slice_get_within}
 use Rattle.pw_flow.specs.declared.flow.Block.{Block}
 use Rattle.pw_flow.specs.declared.flow.FlowFn.{FlowFn}
-use Rattle.pw_flow.specs.Uses.{end_uses}
 use Rattle.pw_opt_rules.specs.declared.flat.Flat.{Flat}
 use Rattle.pw_opt_rules.specs.declared.flat.Flat.TheVariants.{Many}
 use Rattle.pw_opt_rules.specs.Rows.{known, front}
 use Rattle.pw_opt_rules.specs.Rewriting.{Rewriting, rewritten_block, rewritten_blocks, with_blocks}
 use Rattle.pw_opt_order.specs.Rises.{Rises}
-use Rattle.pw_opt_order.specs.Reads.{ReadsFirst, ReadsOperands, block_alike}
+use Rattle.pw_opt_order.specs.Reads.{ReadsOperands, block_alike}
 use Rattle.pw_opt_places.specs.declared.places.Places.{Places}
 use Rattle.pw_opt_places.specs.Places.{ArePlacesOf}
 use Rattle.pw_opt_rows.specs.Joins.{HasWhatMay}

@@ -1,14 +1,13 @@
 -- What flows into the blocks of a function, by the solver, has of shared temporaries what the least solution has.
-use Rattle.std.specs.Prelude.{◌≡◌, ℕ, zero, suc, ◌<◌, ◌≤◌, ◌⊎◌, ◌↔◌, ◌==◌, if◌then◌else◌, Bool, true, false, Option, Some, None, List, [], ◌∷◌, length, map, replicate, slice_get, slice_index_or, Contains}
+use Rattle.std.specs.Prelude.{◌≡◌, ℕ, zero, suc, ◌<◌, ◌≤◌, ◌↔◌, ◌==◌, if◌then◌else◌, Bool, true, false, Option, Some, None, List, [], ◌∷◌, length, replicate, slice_get, slice_index_or, Contains}
 use Rattle.std.proofs.Common.{set, refl, sym, ap, subst, ◌∙◌, arith, inl, inr}
 use Rattle.std.proofs.lemmas.Bool.{cases_lt}
 use Rattle.std.proofs.lemmas.List.{get_or_past, get_or-replicate, get_or-map, length-replicate, length-set, length-map}
 use Rattle.std.proofs.lemmas.Option.{slice_get_within, slice_get-get_or}
 use Rattle.pw_fix.specs.Order.{IsLeast, IsJoin}
-use Rattle.pw_fix.specs.Solution.{HasEdge, IsAbovePredecessors, IsInflow, IsStep, Place, into, value_of, Derivable, least, flows, steps, joins}
+use Rattle.pw_fix.specs.Solution.{HasEdge, IsInflow, Place, into, value_of, Derivable, least, flows, steps, joins}
 use Rattle.pw_fix.specs.Solution as fix
 use Rattle.pw_fix.proofs.Derivations.{derivable_own}
-use Rattle.pw_flow.specs.declared.flow.Op.{Op}
 use Rattle.pw_flow.specs.declared.flow.Block.{Block}
 use Rattle.pw_flow.specs.declared.flow.FlowFn.{FlowFn}
 use Rattle.pw_flow.specs.Uses.{end_uses, successors}
@@ -19,7 +18,7 @@ use Rattle.pw_opt_rules.specs.Rows.{known, IsRowBelow, behind, front, IsSolution
 use Rattle.pw_opt_rules.specs.Rewriting.{Rewriting}
 use Rattle.pw_opt_order.specs.Rises.{Rises}
 use Rattle.pw_opt_order.specs.Order.{below_many, below_through, rows_below_themselves, behind_rises}
-use Rattle.pw_opt_order.specs.Reads.{ReadsFirst, ReadsOperands, behind_alike}
+use Rattle.pw_opt_order.specs.Reads.{ReadsOperands, behind_alike}
 use Rattle.pw_opt_places.specs.declared.places.Place.{Place as PlaceValue}
 use Rattle.pw_opt_places.specs.declared.places.Place.TheVariants as place
 use Rattle.pw_opt_places.specs.declared.places.Places.{Places}
@@ -27,7 +26,7 @@ use Rattle.pw_opt_places.specs.Places.{place_of, IsShared, ArePlacesOf}
 use Rattle.pw_opt_rows.specs.Joins.{joined}
 use Rattle.pw_opt_rows.specs.Seeing.{at_rest, rested, taken, may_at, IsOwn, IsBelowShared}
 use Rattle.pw_opt_rows.specs.Outflows.{entered, outflow_by, outflow, IsOutflow, IsEdge, all_rested, AreFronts}
-use Rattle.pw_opt_rows.specs.RowLaws.{entered_long, entered_rises, known_rested, rested_long, rested_rises, known_taken, taken_long, taken_past, out_rises}
+use Rattle.pw_opt_rows.specs.RowLaws.{entered_rises, known_rested, rested_long, rested_rises, known_taken, taken_long, taken_past, out_rises}
 use Rattle.pw_opt_rows.proofs.Entering.{all_many, entered_on, row_at, opened_first, opened_on}
 use Rattle.pw_opt_rows.proofs.Joining.{least_above, bottom_least}
 use Rattle.pw_opt_rows.proofs.Elements.{elements_join}

@@ -1,5 +1,5 @@
 -- Rows as a block sees them.
-use Rattle.std.specs.Prelude.{ℕ, suc, ◌≡◌, ◌≢◌, ◌==◌, ◌<◌, ◌≤◌, if◌then◌else◌, Bool, true, false, List, length, map, replicate, slice_set, slice_index_or}
+use Rattle.std.specs.Prelude.{ℕ, ◌≡◌, ◌≢◌, ◌==◌, ◌<◌, if◌then◌else◌, Bool, true, false, List, length, slice_set, slice_index_or}
 use Rattle.std.proofs.Common.{refl, sym, ap, subst, ◌∙◌, arith, inl, inr}
 use Rattle.std.proofs.lemmas.Bool.{cases_lt, cases_eq, eqb-true, eq-eqb}
 use Rattle.std.proofs.lemmas.List.{ext_get_or, get_or_past, get_or-set_same, get_or-set_other, length-set, length-map}
@@ -9,7 +9,7 @@ use Rattle.pw_opt_rules.specs.Rows.{known}
 use Rattle.pw_opt_places.specs.declared.places.Place.{Place}
 use Rattle.pw_opt_places.specs.declared.places.Place.TheVariants.{Nowhere, Own, Shared}
 use Rattle.pw_opt_places.specs.declared.places.Places.{Places}
-use Rattle.pw_opt_places.specs.Places.{place_of, IsPlaceIn, IsAtHome, IsShared}
+use Rattle.pw_opt_places.specs.Places.{place_of, IsPlaceIn, IsAtHome}
 use Rattle.pw_opt_rows.specs.Places.{at_place, with_place}
 use Rattle.pw_opt_rows.specs.Seeing.{seen, at_rest, rested, taken, IsRowOf}
 use Rattle.pw_opt_rows.specs.RowLaws.{known_seen, known_rested, rested_long, known_taken, taken_long}

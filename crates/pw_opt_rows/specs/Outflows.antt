@@ -1,6 +1,6 @@
 -- What is known in a function as a problem of the solver: its blocks are nodes. Whatever flows into the first from others, all may
 -- be anything there, as it is the start. From block to block flows what is known of shared temporaries.
-use Rattle.std.specs.Prelude.{ℕ, ◌≡◌, ◌==◌, ◌<◌, if◌then◌else◌, Bool, true, All, Option, Some, None, List, [], replicate, length, map, slice_get, slice_index_or, Contains}
+use Rattle.std.specs.Prelude.{ℕ, ◌≡◌, ◌==◌, ◌<◌, if◌then◌else◌, Bool, true, All, Option, Some, None, List, replicate, length, map, slice_get, Contains}
 use Rattle.std.specs.List.{AllByRecursion}
 use Rattle.pw_flow.specs.declared.flow.Op.{Op}
 use Rattle.pw_flow.specs.declared.flow.Block.{Block}

@@ -1,6 +1,4 @@
-use Rattle.std.proofs.Common.{◌≡◌, ◌∙◌, ◌+◌, List, length, refl, sym, ap, subst, arith}
-use Rattle.pw_opt_places.specs.declared.places.Place.{Place}
-use Rattle.pw_opt_places.specs.Homes.{home_of}
+use Rattle.std.proofs.Common.{◌≡◌, ◌∙◌, ◌+◌, length, refl, sym, subst, arith}
 use Rattle.pw_opt_places.specs.Giving.{IsHomeBelow, IsPlaceFor, ArePlacesFor, place_for}
 use Rattle.pw_opt_places.proofs.Giving.{for_none, for_more, place_fits, home_below}
 use Rattle.pw_opt_places.proofs.places.Given.give_all.Goals as goal

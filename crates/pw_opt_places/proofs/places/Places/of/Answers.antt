@@ -1,5 +1,4 @@
-use Rattle.std.proofs.Common.{◌≡◌, ◌∙◌, ◌≤◌, ℕ, All, List, length, sym, ap, subst}
-use Rattle.pw_flow.specs.declared.flow.Block.{Block}
+use Rattle.std.proofs.Common.{◌∙◌, ◌≤◌, ℕ, All, List, length, sym, subst}
 use Rattle.pw_opt_places.specs.declared.homes.Home.{Home}
 use Rattle.pw_opt_places.specs.Giving.{IsHomeBelow}
 use Rattle.pw_opt_places.proofs.Giving.{greatest_few, homes_below, places_of_function}

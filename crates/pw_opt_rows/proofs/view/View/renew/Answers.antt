@@ -1,7 +1,4 @@
 use Rattle.std.proofs.Common.{◌∙◌, ◌<◌, ℕ, sym, ap, subst, arith}
-use Rattle.std.specs.Prelude.{◌≡◌}
-use Rattle.pw_opt_rules.specs.declared.flat.Flat.TheVariants.{Many}
-use Rattle.pw_opt_rules.specs.Rows.{known}
 use Rattle.pw_opt_rows.specs.Seeing.{rested}
 use Rattle.pw_opt_rows.proofs.Viewing.{fresh_seen}
 use Rattle.pw_opt_rows.proofs.view.View.renew.Goals as goal

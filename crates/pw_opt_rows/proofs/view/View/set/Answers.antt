@@ -1,6 +1,5 @@
-use Rattle.std.proofs.Common.{◌≡◌, ◌∙◌, ap}
+use Rattle.std.proofs.Common.{◌∙◌, ap}
 use Rattle.pw_opt_places.specs.declared.places.Place.{Place}
-use Rattle.pw_opt_places.specs.Places.{place_of}
 use Rattle.pw_opt_rows.specs.Places.{with_place}
 use Rattle.pw_opt_rows.specs.Seeing.{seen}
 use Rattle.pw_opt_rows.proofs.Viewing.{seen_set, row_set}
