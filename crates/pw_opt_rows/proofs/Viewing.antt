@@ -42,8 +42,8 @@ other_stays b row x (Own c j) (Own d k) home other = elim (cases_eq d b) [
 ]
   where
     by : (e : Bool) → (d == b) ≡ e → ((d == b) ≡ true → ⊥) → (if e then known (slice_set row.1 j x) k else Many) ≡ (if e then known row.1 k else Many)
-    by true e no = absurd (no e)
-    by false e no = refl
+    by true e never = absurd (never e)
+    by false e never = refl
 other_stays b row x (Shared i) Nowhere home other = refl
 other_stays b row x (Shared i) (Own d k) home other = refl
 other_stays b row x (Shared i) (Shared k) home other = get_or-set_other row.0 i k x Many (λ same. other (ap Shared (sym same)))

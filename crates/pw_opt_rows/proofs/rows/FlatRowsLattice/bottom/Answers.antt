@@ -6,4 +6,7 @@ use Rattle.pw_opt_rows.proofs.rows.FlatRowsLattice.bottom.Goals as goal
 pub returns : goal.returns
 returns g c =
     let rows = c.args.self.now in
-    element_least rows.places.now (g.R.Rewriting.may rows.rewriting.now) c.in_ok-row.row (c.in_ok-row.ensures.shared ∙ ap (λ (n : ℕ). replicate n Bottom) c.shared.ensures) c.in_ok-row.ensures.own
+    record {
+      least = element_least rows.places.now (g.R.Rewriting.may rows.rewriting.now) c.in_ok-row.row (c.in_ok-row.ensures.shared ∙ ap (λ (n : ℕ). replicate n Bottom) c.shared.ensures)
+          c.in_ok-row.ensures.own;
+    }
