@@ -1,6 +1,7 @@
 mod Joining
 mod Elements
 mod Viewing
+mod Away
 mod Ways
 mod Gathering
 mod Steps

@@ -5,8 +5,9 @@ ghost use Rattle.pw_fix.specs.Solution.{AreDerived, Derivable, IsInflow, into as
 ghost use Rattle.pw_opt_rules.specs.declared.flat.Flat.{Flat as FlatValue};
 ghost use Rattle.pw_opt_rules.specs.declared.flat.Flat.TheVariants.{Bottom, Many};
 ghost use Rattle.pw_opt_rules.specs.Rows.{behind};
-ghost use Rattle.pw_opt_places.specs.Places.{ArePlacesOf, DefinesAtHome, DefineAtHome};
+ghost use Rattle.pw_opt_places.specs.Places.{ArePlacesOf, DefinesAtHome};
 ghost use Rattle.pw_opt_rows.specs.Joins.{HasWhatMay};
+ghost use Rattle.pw_opt_rows.specs.Places.{DefineNoneAway};
 ghost use Rattle.pw_opt_rows.specs.Seeing.{IsRowOf, IsOwn, IsBelowShared, seen_by};
 ghost use Rattle.pw_opt_rows.specs.Outflows.{AreAbout, AreFronts, HasWays, IsOutflow, entered};
 
@@ -53,7 +54,7 @@ struct Blocks<'a, R: Rewriting> {
     rows: FlatRows<'a, R>,
     blocks: &'a [Block],
     ghost about: { All (AreAbout (R.is_about rows.rewriting.now)) blocks.now },
-    ghost home: { DefineAtHome rows.places.now.places.items blocks.now },
+    ghost home: { DefineNoneAway rows.places.now.places.items blocks.now },
 }
 
 impl<'a, R: Rewriting> Problem for Blocks<'a, R> {

@@ -7,11 +7,12 @@ use Rattle.pw_flow.specs.declared.flow.Block.{Block}
 use Rattle.pw_opt_rules.specs.declared.flat.Flat.{Flat}
 use Rattle.pw_opt_rules.specs.declared.flat.Flat.TheVariants.{Many}
 use Rattle.pw_opt_places.specs.declared.places.Places.{Places}
-use Rattle.pw_opt_places.specs.Places.{DefineAtHome}
+use Rattle.pw_opt_rows.specs.Places.{DefineNoneAway}
 use Rattle.pw_opt_rows.specs.Seeing.{may_at, IsOwn, IsBelowShared}
 use Rattle.pw_opt_rows.specs.Outflows.{HasWays, IsOutflow, IsEdge, AreAbout, AreFronts}
 use Rattle.pw_opt_rows.proofs.Entering.{many_own}
 use Rattle.pw_opt_rows.proofs.Ways.{edges_inside}
+use Rattle.pw_opt_rows.proofs.Away.{none_away}
 use Rattle.pw_opt_rows.proofs.Least.{solves}
 use Rattle.pw_opt_rows.proofs.fronts.find_fronts.Goals as goal
 
@@ -30,7 +31,7 @@ invariant_of-graph g c =
 pub invariant_of-problem : goal.invariant_of-problem
 invariant_of-problem g c = record {
   about = subst (All (AreAbout (g.R.Rewriting.is_about c.args.rewriting.now))) (sym c.as_slice-blocks.ensures) c.requires.about;
-  home = subst (DefineAtHome c.args.places.now.places.items) (sym c.as_slice-blocks.ensures) c.requires.places.home;
+  home = subst (DefineNoneAway c.args.places.now.places.items) (sym c.as_slice-blocks.ensures) (none_away c.args.places.now.places.items c.args.f.now.blocks c.requires.places.home);
 }
 
 pub gather-requires-clause-edges : goal.gather-requires-clause-edges

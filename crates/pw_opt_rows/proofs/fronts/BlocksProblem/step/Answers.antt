@@ -11,6 +11,7 @@ use Rattle.pw_opt_rows.specs.Outflows.{entered, outflow_by}
 use Rattle.pw_opt_rows.specs.RowLaws.{entered_long, rested_may, taken_may}
 use Rattle.pw_opt_rows.proofs.Entering.{entered_may}
 use Rattle.pw_opt_rows.proofs.Viewing.{seen_taken}
+use Rattle.pw_opt_rows.proofs.Away.{all_home}
 use Rattle.pw_opt_rows.proofs.fronts.BlocksProblem.step.Goals as goal
 
 -- the pair that a row is
@@ -34,7 +35,7 @@ follow_all-requires-clause-home g c =
     let p = c.args.self.now in
     let block = c.index-self-node.result in
     let there : slice_get p.blocks.now c.args.node ≡ Some block = slice_get_read p.blocks.now (length p.blocks.now) c.args.node block refl c.requires.node c.index-self-node.is in
-    subst (All (DefinesAtHome p.rows.places.now.places.items c.args.node)) (sym c.as_slice.ensures) (p.home c.args.node block there)
+    subst (All (DefinesAtHome p.rows.places.now.places.items c.args.node)) (sym c.as_slice.ensures) (all_home p.rows.places.now.places.items c.args.node block.ops (p.home c.args.node block there))
 
 pub follow_all-requires-clause-may : goal.follow_all-requires-clause-may
 follow_all-requires-clause-may g c =
