@@ -2,6 +2,7 @@ use Rattle.std.proofs.Common.{◌≡◌, ◌∙◌, ℕ, List, All, length, refl
 use Rattle.std.specs.Prelude.{Some, slice_get}
 use Rattle.std.proofs.lemmas.Option.{slice_get_read}
 use Rattle.pw_flow.specs.declared.flow.Op.{Op}
+use Rattle.pw_flow.specs.declared.flow.Block.{Block}
 use Rattle.pw_opt_rules.specs.declared.flat.Flat.{Flat}
 use Rattle.pw_opt_rules.specs.Rows.{behind}
 use Rattle.pw_opt_places.specs.Places.{DefinesAtHome}
@@ -35,7 +36,8 @@ follow_all-requires-clause-home g c =
     let p = c.args.self.now in
     let block = c.index-self-node.result in
     let there : slice_get p.blocks.now c.args.node ≡ Some block = slice_get_read p.blocks.now (length p.blocks.now) c.args.node block refl c.requires.node c.index-self-node.is in
-    subst (All (DefinesAtHome p.rows.places.now.places.items c.args.node)) (sym c.as_slice.ensures) (all_home p.rows.places.now.places.items c.args.node block.ops (p.home c.args.node block there))
+    let ops : c.as_slice.result.now ≡ block.ops = c.as_slice.ensures ∙ ap (λ (b : Block). b.ops) (sym c.index-self-node.is) in
+    subst (All (DefinesAtHome p.rows.places.now.places.items c.args.node)) (sym ops) (all_home p.rows.places.now.places.items c.args.node block.ops (p.home c.args.node block there))
 
 pub follow_all-requires-clause-may : goal.follow_all-requires-clause-may
 follow_all-requires-clause-may g c =
@@ -70,8 +72,9 @@ returns-clause-outflow g c =
     let front = entered (length ps.names.items) c.args.node c.args.inflow.now.0 in
     let start : c.enter.new.row.0 ≡ front = entered_first c.enter.new.row c.args.out.now (length ps.names.items) c.args.node c.args.inflow.now.0 c.enter.ensures c.requires.out.0.0 in
     let there : slice_get blocks c.args.node ≡ Some block = slice_get_read blocks (length blocks) c.args.node block refl c.requires.node c.index-self-node.is in
+    let own : c.as_slice.result.now ≡ block.ops = c.as_slice.ensures ∙ ap (λ (b : Block). b.ops) (sym c.index-self-node.is) in
     seen_taken ps c.args.node c.follow_all.new.row (behind transfer (rested ps.places.items front) block.ops) c.follow_all.ensures.row.0
     (c.follow_all.ensures.behind
     ∙ ap (λ (row : List Flat). behind transfer row c.as_slice.result.now) (c.renew.ensures.seen ∙ ap (rested ps.places.items) start)
-    ∙ ap (λ (ops : List Op). behind transfer (rested ps.places.items front) ops) c.as_slice.ensures)
+    ∙ ap (λ (ops : List Op). behind transfer (rested ps.places.items front) ops) own)
     ∙ sym (ap (outflow_by transfer ps front) there)
