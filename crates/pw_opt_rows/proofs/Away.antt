@@ -1,6 +1,6 @@
 -- What is not away from home is at home.
 use Rattle.std.specs.Prelude.{ℕ, ◌≡◌, ◌<◌, List, All, length}
-use Rattle.std.proofs.Common.{refl, sym, subst, arith, inl, inr}
+use Rattle.std.proofs.Common.{refl, subst, arith, inl, inr}
 use Rattle.std.proofs.lemmas.Bool.{cases_lt, cases_eq}
 use Rattle.pw_flow.specs.declared.flow.Op.{Op}
 use Rattle.pw_flow.specs.declared.flow.Block.{Block}
