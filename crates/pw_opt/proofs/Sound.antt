@@ -152,7 +152,7 @@ rewritten_sound w may about f g k all s r = subst IsSound (sym r.is) (record {
   params = s.params;
   start = subst (λ (n : ℕ). 0 < n) (sym long) s.start;
   blocks = subst (λ (n : ℕ). AllByRecursion (IsSoundBlock f.temps n) (rewritten_blocks w r.rows f.blocks)) (sym long)
-      (blocks_sound w may about f.temps (length f.blocks) k r.rows f.blocks all (λ i d lt. (r.own i d lt).1) s.blocks);
+      (blocks_sound w may about f.temps (length f.blocks) k r.rows f.blocks all r.own s.blocks);
 })
   where
     long : length (rewritten_blocks w r.rows f.blocks) ≡ length f.blocks

@@ -37,7 +37,7 @@ set_many row t u = elim (cases_eq u t) [
   )
 ]
 
-one_from : (of : ℕ) (x : Flat) → is_one of x ≡ true → x ≡ One of
+pub one_from : (of : ℕ) (x : Flat) → is_one of x ≡ true → x ≡ One of
 one_from of Bottom e = absurd cc
 one_from of (One m) e = ap One (eqb-true m of e)
 one_from of Many e = absurd cc

@@ -5,11 +5,12 @@ ghost use Rattle.pw_flow.specs.declared.flow.Op.{Op as OpValue};
 ghost use Rattle.pw_opt_rules.specs.Copies.{without_copies};
 ghost use Rattle.pw_opt_rules.specs.Flat.{is_one};
 ghost use Rattle.pw_opt_rows.specs.Joins.{HasWhatMay};
+ghost use Rattle.pw_opt_rows.specs.Seeing.{IsRowOf, seen_by};
 ghost use Rattle.pw_opt_rows.specs.Outflows.{AreAbout};
 ghost use Rattle.pw_opt_copies.specs.Copiers.{is_copier, is_noted, AreCopiers, CopiesBelow};
 
 use pw_flow::{Block, FlowFn, Op};
-use pw_opt_rows::Row;
+use pw_opt_rows::{Row, View};
 use pw_opt_rules::Flat;
 use std::alloc::{AllocError as NoMemory, Global};
 use std::marker::Model;
@@ -108,14 +109,16 @@ impl Copiers {
         Ok(copiers)
     }
 
-    /// Ends the copies of a temporary.
-    pub(crate) fn forget(&self, row: &mut Row, of: u32)
-        requires { HasWhatMay (is_copier self.now) row.old }
-        ensures { row.new ≡ without_copies row.old of }
+    /// Ends the copies of a temporary, as far as a block sees them.
+    pub(crate) fn forget(&self, view: &View<'_>, row: &mut Row, of: u32)
+        requires row { IsRowOf view.now.places.now row.old }
+        requires may { HasWhatMay (is_copier self.now) (seen_by view.now row.old) }
+        ensures seen { seen_by view.now row.new ≡ without_copies (seen_by view.now row.old) of }
+        ensures row { IsRowOf view.now.places.now row.new }
     {
         let place = of as usize;
         if place < self.copiers.len() {
-            forget_in(row, &self.copiers[place], of);
+            forget_in(view, row, &self.copiers[place], of);
         }
     }
 }
@@ -131,13 +134,15 @@ fn is_copy(known: Flat, of: u32) -> bool
 }
 
 /// Ends the copies of a temporary, all of which are among these.
-fn forget_in(row: &mut Row, copiers: &[u32], of: u32)
-    requires { AreCopiers copiers.now of row.old }
-    ensures { row.new ≡ without_copies row.old of }
+fn forget_in(view: &View<'_>, row: &mut Row, copiers: &[u32], of: u32)
+    requires row { IsRowOf view.now.places.now row.old }
+    requires copiers { AreCopiers copiers.now of (seen_by view.now row.old) }
+    ensures seen { seen_by view.now row.new ≡ without_copies (seen_by view.now row.old) of }
+    ensures row { IsRowOf view.now.places.now row.new }
 {
     for &t in copiers {
-        if is_copy(row.get(t), of) {
-            row.set(t, Flat::Many);
+        if is_copy(view.get(row, t), of) {
+            view.set(row, t, Flat::Many);
         }
     }
 }

@@ -61,6 +61,6 @@ blocks_now w rows bs k row b made old new lt low is_row is e so_far pushed =
     ∙ sym (blocks_more w rows bs k row b lt low (get_or_default rows k row [] low ∙ sym is_row) (sym is))
 
 -- rows that are not spent yet stay
-pub rest_now : (rows now : List (List Flat)) (place : ℕ) (row : List Flat) → ((j : ℕ) → place ≤ j → get_or now j [] ≡ get_or rows j []) → (j : ℕ) → place + 1 ≤ j
-    → get_or (set now place row) j [] ≡ get_or rows j []
-rest_now rows now place row rest j le = get_or-set_other now place j row [] (λ same. absurd (omega (arith, same, le))) ∙ rest j (omega (arith, le))
+pub rest_now : {X : Type 0} (d : X) (rows now : List X) (place : ℕ) (row : X) → ((j : ℕ) → place ≤ j → get_or now j d ≡ get_or rows j d) → (j : ℕ) → place + 1 ≤ j
+    → get_or (set now place row) j d ≡ get_or rows j d
+rest_now d rows now place row rest j le = get_or-set_other now place j row d (λ same. absurd (omega (arith, same, le))) ∙ rest j (omega (arith, le))

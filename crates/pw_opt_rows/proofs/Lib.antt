@@ -1,6 +1,10 @@
 mod Joining
+mod Elements
+mod Viewing
+mod Away
 mod Ways
 mod Gathering
 mod Steps
 mod Entering
+mod Solving
 mod Least

@@ -4,8 +4,8 @@ use Rattle.std.specs.Prelude.{ℕ, zero, suc, ◌≡◌, ◌+◌, ◌<◌, ◌�
 use Rattle.std.proofs.Common.{refl, sym, ap, subst, ◌∙◌, arith, inl, inr}
 use Rattle.std.proofs.lemmas.Bool.{cases_lt, cases_eq, eqb-true, eq-eqb}
 use Rattle.std.proofs.lemmas.List.{get_or_past}
+use Rattle.std.proofs.lemmas.List.Elements.{Contains-push_cases, Contains-append_cases}
 use Rattle.std.proofs.lemmas.Option.{slice_get_within, same_Some}
-use Rattle.pw_files.proofs.Standing.{Has, has_by, contains_by}
 use Rattle.pw_flow.specs.declared.flow.Op.{Op}
 use Rattle.pw_flow.specs.declared.flow.Block.{Block}
 use Rattle.pw_flow.specs.declared.flow.FlowFn.{FlowFn}
@@ -17,6 +17,7 @@ use Rattle.pw_opt_rules.specs.Rows.{known, IsRowBelow, behind, front, IsSolution
 use Rattle.pw_opt_order.specs.Rises.{Rises}
 use Rattle.pw_opt_order.specs.Order.{below_many, below_through, behind_rises}
 use Rattle.pw_opt_rows.specs.Joins.{joined, flat_rank}
+use Rattle.pw_opt_rows.proofs.Joining.{least_above}
 
 -- ---- lists by their places
 
@@ -102,33 +103,27 @@ count_or P (suc n) each = elim (count_or P n each) [
   ]
 ]
 
-has_either : {X : Type 0} (P : X → Type 0) (y : X) (ys : List X) → P y → ((x : X) → Has x ys → P x) → (x : X) → Has x (y ∷ ys) → P x
-has_either P y ys here rest x (inl e) = subst P e here
-has_either P y ys here rest x (inr h) = rest x h
+-- the first or a later one
+first_or_later : {X : Type 0} (y x : X) (ys : List X) → Contains (y ∷ ys) x → (y ≡ x) ⊎ Contains ys x
+first_or_later y x ys c = elim (Contains-append_cases (y ∷ []) ys x c) [
+  | inr later ↦ inr later
+  | inl first ↦ elim (Contains-push_cases [] y x first) [ inl none ↦ absurd (let lt = none.1 in omega (arith, lt)) | inr e ↦ inl e ]
+]
 
-all_or : {X Q : Type 0} (P : X → Type 0) (xs : List X) → ((x : X) → Has x xs → P x ⊎ Q) → ((x : X) → Has x xs → P x) ⊎ Q
-all_or P [] each = inl (λ x h. absurd h)
-all_or P (y ∷ ys) each = elim (each y (inl refl)) [
+later_one : {X : Type 0} (y x : X) (ys : List X) → Contains ys x → Contains (y ∷ ys) x
+later_one y x ys c = (suc c.0, (let lt : c.0 < length ys = c.1 in omega (arith, lt)), c.2)
+
+all_or : {X Q : Type 0} (P : X → Type 0) (xs : List X) → ((x : X) → Contains xs x → P x ⊎ Q) → ((x : X) → Contains xs x → P x) ⊎ Q
+all_or P [] each = inl (λ x c. absurd (let lt = c.1 in omega (arith, lt)))
+all_or P (y ∷ ys) each = elim (each y (0, omega arith, refl)) [
   | inr q ↦ inr q
-  | inl here ↦ elim (all_or P ys (λ x h. each x (inr h))) [
+  | inl here ↦ elim (all_or P ys (λ x c. each x (later_one y x ys c))) [
     | inr q ↦ inr q
-    | inl rest ↦ inl (has_either P y ys here rest)
+    | inl rest ↦ inl (λ x c. elim (first_or_later y x ys c) [ inl e ↦ subst P e here | inr later ↦ rest x later ])
   ]
 ]
 
 -- ---- joins
-
--- below whatever both are below
-least_above : (x y w : Flat) → IsBelow x w → IsBelow y w → IsBelow (joined x y) w
-least_above Bottom y w a b = b
-least_above (One m) Bottom w a b = a
-least_above (One m) (One n) Bottom a b = absurd a
-least_above (One m) (One n) (One k) a b = subst (λ (c : Bool). IsBelow (if c then One m else Many) (One k)) (sym (eq-eqb m n (a ∙ sym b))) a
-least_above (One m) (One n) Many a b = below_many (joined (One m) (One n))
-least_above (One m) Many Bottom a b = absurd a
-least_above (One m) Many (One k) a b = absurd b
-least_above (One m) Many Many a b = tt
-least_above Many y w a b = a
 
 -- no lower in rank
 rank_joined : (x y : Flat) → flat_rank x ≤ flat_rank (joined x y)
@@ -193,7 +188,7 @@ module _ (transfer : List Flat → Op → List Flat) (r : Rises transfer) (f : F
   FlowsOn p b block c = c < length f.blocks → FlowsTo p b block c
 
   abbrev AllFlow : Knowing → Type 0
-  AllFlow p = (b : ℕ) (block : Block) → slice_get f.blocks b ≡ Some block → (c : ℕ) → Has c (successors block.end) → FlowsOn p b block c
+  AllFlow p = (b : ℕ) (block : Block) → slice_get f.blocks b ≡ Some block → (c : ℕ) → Contains (successors block.end) c → FlowsOn p b block c
 
   -- an edge along which something flows that is not below what is known there
   record Gap (p : Knowing) : Type 0 where
@@ -207,25 +202,25 @@ module _ (transfer : List Flat → Op → List Flat) (r : Rises transfer) (f : F
     pub inside : place < f.temps
     pub above : ¬ IsBelow (known (out p from block) place) (p to place)
 
-  edge_told : (p : Knowing) (b : ℕ) (block : Block) → slice_get f.blocks b ≡ Some block → (c : ℕ) → Has c (successors block.end) → FlowsOn p b block c ⊎ Gap p
+  edge_told : (p : Knowing) (b : ℕ) (block : Block) → slice_get f.blocks b ≡ Some block → (c : ℕ) → Contains (successors block.end) c → FlowsOn p b block c ⊎ Gap p
   edge_told p b block at c next = elim (cases_lt c (length f.blocks)) [
     | inr past ↦ inl (λ lt. absurd (omega (arith, lt, past)))
     | inl within ↦ elim (first_told (λ (t : ℕ). IsBelow (known (out p b block) t) (p c t)) (λ t. below_told (known (out p b block) t) (p c t)) f.temps) [
       | inl all ↦ inl (λ lt. all)
-      | inr w ↦ inr (record { from = b; block = block; at = at; to = c; next = contains_by c (successors block.end) next; within = within; place = w.0; inside = w.1; above = w.2 })
+      | inr w ↦ inr (record { from = b; block = block; at = at; to = c; next = next; within = within; place = w.0; inside = w.1; above = w.2 })
     ]
   ]
 
-  block_told : (p : Knowing) (b : ℕ) (o : Option Block) → slice_get f.blocks b ≡ o → ((block : Block) → o ≡ Some block → (c : ℕ) → Has c (successors block.end) → FlowsOn p b block c) ⊎ Gap p
+  block_told : (p : Knowing) (b : ℕ) (o : Option Block) → slice_get f.blocks b ≡ o → ((block : Block) → o ≡ Some block → (c : ℕ) → Contains (successors block.end) c → FlowsOn p b block c) ⊎ Gap p
   block_told p b None at = inl (λ block e. absurd (no_block block e))
   block_told p b (Some own) at = elim (all_or (FlowsOn p b own) (successors own.end) (edge_told p b own at)) [
-    | inl all ↦ inl (λ block e. subst (λ (x : Block). (c : ℕ) → Has c (successors x.end) → FlowsOn p b x c) (same_Some own block e) all)
+    | inl all ↦ inl (λ block e. subst (λ (x : Block). (c : ℕ) → Contains (successors x.end) c → FlowsOn p b x c) (same_Some own block e) all)
     | inr gap ↦ inr gap
   ]
 
   told : (p : Knowing) → AllFlow p ⊎ Gap p
   told p =
-      elim (count_or (λ (b : ℕ). (block : Block) → slice_get f.blocks b ≡ Some block → (c : ℕ) → Has c (successors block.end) → FlowsOn p b block c) (length f.blocks) (λ b. block_told p b (slice_get f.blocks b) refl)) [
+      elim (count_or (λ (b : ℕ). (block : Block) → slice_get f.blocks b ≡ Some block → (c : ℕ) → Contains (successors block.end) c → FlowsOn p b block c) (length f.blocks) (λ b. block_told p b (slice_get f.blocks b) refl)) [
         | inl all ↦ inl (λ b block at. all b (slice_get_within f.blocks b block at) block at)
         | inr gap ↦ inr gap
       ]
@@ -361,7 +356,7 @@ module _ (transfer : List Flat → Op → List Flat) (r : Rises transfer) (f : F
 
     row_flows : (b : ℕ) (block : Block) → slice_get f.blocks b ≡ Some block → (c : ℕ) → Contains (successors block.end) c → c < length f.blocks → IsRowBelow (out s.table b block) (row s.table c)
     row_flows b block at c next within t = elim (cases_lt t f.temps) [
-      | inl inside ↦ subst (λ (z : Flat). IsBelow (known (out s.table b block) t) z) (sym (known_row s.table c t inside)) (s.flows b block at c (has_by c (successors block.end) next) within t inside)
+      | inl inside ↦ subst (λ (z : Flat). IsBelow (known (out s.table b block) t) z) (sym (known_row s.table c t inside)) (s.flows b block at c next within t inside)
       | inr past ↦ subst (λ (z : Flat). IsBelow (known (out s.table b block) t) z) (sym (known_past s.table c t past)) (below_many (known (out s.table b block) t))
     ]
 
