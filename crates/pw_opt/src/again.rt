@@ -92,11 +92,11 @@ pub(crate) fn same_declarations(
 fn same_ops(alloc: Global, constants: &Constants, ops: &[Op]) -> Result<Items<Op>, NoMemory>
     ensures { IfOk result (λ v. v ≡ ops.now) }
 {
-    let mut same = Items::new(alloc);
+    let mut same = Vec::with_capacity(alloc, ops.len())?;
     for op in ops {
         same.push(constants.same(alloc, op)?)?;
     }
-    Ok(same)
+    Ok(Items::from_vec(same))
 }
 
 /// The same blocks again.

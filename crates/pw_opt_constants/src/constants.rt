@@ -1,8 +1,9 @@
 //! The rewriting by constants.
 
-ghost use Rattle.std.specs.Prelude.{◌≡◌, [], IfOk};
-ghost use Rattle.pw_opt_rules.specs.Constants.{constant, const_or, jump_or};
+ghost use Rattle.std.specs.Prelude.{◌≡◌, [], IfOk, MatchOption};
+ghost use Rattle.pw_opt_rules.specs.Constants.{constant, jump_or};
 ghost use Rattle.pw_opt_rows.specs.Seeing.{seen_by};
+ghost use Rattle.pw_opt_constants.specs.Folding.{folded};
 
 use pw_flow::{End, Op};
 use pw_opt_places::Places;
@@ -33,6 +34,31 @@ fn branch(known: Flat, a: u32, b: u32, c: u32) -> End
     match known {
         Flat::One(n) => { if n == 0 { End::Jump(c) } else { End::Jump(b) } }
         _ => End::Branch(a, b, c),
+    }
+}
+
+/// The constant that takes the place of an operation, where what it defines is known to be one.
+fn constant_in(op: &Op, known: Flat) -> Option<Op>
+    ensures { MatchOption result (op.now ≡ folded op.now known) (λ o. o ≡ folded op.now known) }
+{
+    match op {
+        Op::Copy(t, _) | Op::Un(_, t, _) | Op::Bin(_, t, _, _) | Op::Ext(_, t, _) => {
+            match known {
+                Flat::One(n) => Some(Op::Const(*t, n)),
+                Flat::Bottom | Flat::Many => None,
+            }
+        }
+        Op::Const(_, _)
+        | Op::AddrGlobal(_, _, _)
+        | Op::AddrSlot(_, _)
+        | Op::AddrFn(_, _)
+        | Op::LoadG(_, _, _)
+        | Op::StoreG(_, _, _)
+        | Op::Load(_, _, _)
+        | Op::Store(_, _, _)
+        | Op::Move(_, _, _, _)
+        | Op::Call(_, _, _)
+        | Op::CallInd(_, _, _, _) => None,
     }
 }
 
@@ -68,15 +94,6 @@ impl Constants {
         Ok(same)
     }
 
-    /// The constant where it is one, and else the same operation.
-    fn const_or(&self, alloc: Global, t: u32, known: Flat, op: &Op) -> Result<Op, NoMemory>
-        ensures { IfOk result (λ o. o ≡ const_or t known op.now) }
-    {
-        match known {
-            Flat::One(n) => Ok(Op::Const(t, n)),
-            Flat::Bottom | Flat::Many => self.same(alloc, op),
-        }
-    }
 }
 
 impl Rewriting for Constants {
@@ -99,23 +116,8 @@ impl Rewriting for Constants {
         }
     }
 
-    fn op(&self, alloc: Global, view: &View<'_>, row: &Row, op: &Op) -> Result<Op, NoMemory> {
-        match op {
-            Op::Copy(t, _) | Op::Un(_, t, _) | Op::Bin(_, t, _, _) | Op::Ext(_, t, _) => {
-                self.const_or(alloc, *t, constant_of(view, row, op), op)
-            }
-            Op::Const(_, _)
-            | Op::AddrGlobal(_, _, _)
-            | Op::AddrSlot(_, _)
-            | Op::AddrFn(_, _)
-            | Op::LoadG(_, _, _)
-            | Op::StoreG(_, _, _)
-            | Op::Load(_, _, _)
-            | Op::Store(_, _, _)
-            | Op::Move(_, _, _, _)
-            | Op::Call(_, _, _)
-            | Op::CallInd(_, _, _, _) => self.same(alloc, op),
-        }
+    fn op(&self, _alloc: Global, view: &View<'_>, row: &Row, op: &Op) -> Result<Option<Op>, NoMemory> {
+        Ok(constant_in(op, constant_of(view, row, op)))
     }
 
     fn end(&self, view: &View<'_>, row: &Row, end: End) -> End {

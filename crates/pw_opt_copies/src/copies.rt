@@ -3,9 +3,9 @@
 ghost use Rattle.std.specs.Prelude.{◌≡◌};
 ghost use Rattle.pw_opt_rules.specs.Copies.{copied};
 
-use crate::copiers::Copiers;
+use crate::originals::Originals;
 use pw_flow::{End, Op};
-use pw_opt_rewrite::{end_with_originals, op_defines, with_originals};
+use pw_opt_rewrite::{end_with_originals, have_originals, op_defines, with_originals};
 use pw_opt_rows::{Rewriting, Row, View};
 use pw_opt_rules::Flat;
 use std::alloc::{AllocError as NoMemory, Global};
@@ -20,16 +20,16 @@ fn copied_by(op: &Op) -> Flat
     }
 }
 
-impl Rewriting for Copiers {
+impl Rewriting for Originals {
     ghost use Rattle.pw_opt_rules.specs.Copies.{copies};
     ghost use Rattle.pw_opt_order.specs.Order.{copies_rise};
     ghost use Rattle.pw_opt_order.specs.Reads.{copies_read};
-    ghost use Rattle.pw_opt_copies.specs.Copiers.{is_copier, is_noted};
+    ghost use Rattle.pw_opt_copies.specs.Originals.{may_copy, is_noted};
     ghost use Rattle.pw_opt_copies.specs.Keeping.{copies_keep};
 
     ghost rewriting = { λ _. copies };
 
-    ghost may = { is_copier };
+    ghost may = { may_copy };
 
     ghost is_about = { is_noted };
 
@@ -40,8 +40,12 @@ impl Rewriting for Copiers {
         }
     }
 
-    fn op(&self, alloc: Global, view: &View<'_>, row: &Row, op: &Op) -> Result<Op, NoMemory> {
-        with_originals(alloc, view, row, op)
+    fn op(&self, alloc: Global, view: &View<'_>, row: &Row, op: &Op) -> Result<Option<Op>, NoMemory> {
+        if have_originals(view, row, op) {
+            let new = with_originals(alloc, view, row, op)?;
+            return Ok(Some(new));
+        }
+        Ok(None)
     }
 
     fn end(&self, view: &View<'_>, row: &Row, end: End) -> End {

@@ -1,6 +1,7 @@
 //! Operations on other operands.
 
 ghost use Rattle.std.specs.Prelude.{◌≡◌, map, IfOk};
+ghost use Rattle.std.specs.Bool.{OnFalse};
 ghost use Rattle.pw_flow.specs.declared.flow.Op.TheVariants as op;
 ghost use Rattle.pw_opt_rules.specs.Copies.{original, with_operands, with_end_operand};
 ghost use Rattle.pw_opt_rows.specs.Seeing.{seen_by};
@@ -19,6 +20,50 @@ pub fn original(view: &View<'_>, row: &Row, a: u32) -> u32
     match view.get(row, a) {
         Flat::One(x) => x,
         _ => a,
+    }
+}
+
+/// Whether another temporary stands for an operand.
+fn has_original(view: &View<'_>, row: &Row, a: u32) -> bool
+    ensures { OnFalse result (original (seen_by view.now row.now) a ≡ a) }
+{
+    original(view, row, a) != a
+}
+
+/// Whether another temporary stands for one of several operands.
+fn some_has_original(view: &View<'_>, row: &Row, args: &[u32]) -> bool
+    ensures { OnFalse result (map (original (seen_by view.now row.now)) args.now ≡ args.now) }
+{
+    for &a in args {
+        if has_original(view, row, a) {
+            return true;
+        }
+    }
+    false
+}
+
+/// Whether another temporary stands for an operand of an operation.
+pub fn have_originals(view: &View<'_>, row: &Row, op: &Op) -> bool
+    ensures { OnFalse result (with_operands (original (seen_by view.now row.now)) op.now ≡ op.now) }
+{
+    match op {
+        Op::Const(_, _)
+        | Op::AddrGlobal(_, _, _)
+        | Op::AddrSlot(_, _)
+        | Op::AddrFn(_, _)
+        | Op::LoadG(_, _, _) => false,
+        Op::Copy(_, a)
+        | Op::Un(_, _, a)
+        | Op::Ext(_, _, a)
+        | Op::StoreG(_, a, _)
+        | Op::Load(_, _, a) => has_original(view, row, *a),
+        Op::Bin(_, _, a, b) | Op::Store(_, a, b) | Op::Move(a, b, _, _) => {
+            has_original(view, row, *a) || has_original(view, row, *b)
+        }
+        Op::Call(_, _, args) => some_has_original(view, row, args.as_slice()),
+        Op::CallInd(_, a, _, args) => {
+            has_original(view, row, *a) || some_has_original(view, row, args.as_slice())
+        }
     }
 }
 

@@ -3,6 +3,7 @@ mod Elements
 mod Viewing
 mod Away
 mod Ways
+mod Forgetting
 mod Gathering
 mod Steps
 mod Entering

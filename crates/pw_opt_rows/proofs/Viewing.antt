@@ -3,9 +3,12 @@ use Rattle.std.specs.Prelude.{ℕ, ◌≡◌, ◌≢◌, ◌==◌, ◌<◌, if�
 use Rattle.std.proofs.Common.{refl, sym, ap, subst, ◌∙◌, arith, inl, inr}
 use Rattle.std.proofs.lemmas.Bool.{cases_lt, cases_eq, eqb-true, eq-eqb}
 use Rattle.std.proofs.lemmas.List.{ext_get_or, get_or_past, get_or-set_same, get_or-set_other, length-set, length-map}
+use Rattle.std.proofs.Math.ListN.{get_or-map}
 use Rattle.pw_opt_rules.specs.declared.flat.Flat.{Flat}
 use Rattle.pw_opt_rules.specs.declared.flat.Flat.TheVariants.{Many}
 use Rattle.pw_opt_rules.specs.Rows.{known}
+use Rattle.pw_opt_rules.specs.Copies.{without_copies}
+use Rattle.pw_opt_order.specs.Order.{forgotten}
 use Rattle.pw_opt_places.specs.declared.places.Place.{Place}
 use Rattle.pw_opt_places.specs.declared.places.Place.TheVariants.{Nowhere, Own, Shared}
 use Rattle.pw_opt_places.specs.declared.places.Places.{Places}
@@ -134,3 +137,26 @@ seen_taken ps b row full long is =
     let low : i < length ps.names.items = omega (arith, lt, long) in
     let name : ℕ = slice_index_or ps.names.items i 0 in
     sym (known_taken ps.names.items full i low ∙ ap (λ (v : List Flat). known v name) (sym is) ∙ known_seen ps.places.items b row name ∙ ap (at_place b row) (ps.are.given.placed i low)))
+
+-- ---- where nothing is a copy of a temporary any more
+
+pub seen_forgotten : (ps : Places) (b of : ℕ) (old row : List Flat × List Flat) → length row.0 ≡ length old.0 → ((i : ℕ) → i < length old.0 → known row.0 i ≡ forgotten of (known old.0 i))
+    → ((j : ℕ) → j < slice_index_or ps.counts.items b 0 → known row.1 j ≡ forgotten of (known old.1 j)) → seen ps.places.items b row ≡ without_copies (seen ps.places.items b old) of
+seen_forgotten ps b of old row long shared own =
+    ext_get_or Many (seen ps.places.items b row) (without_copies (seen ps.places.items b old) of)
+    (seen_long ps.places.items b row ∙ sym (length-map (seen ps.places.items b old) (forgotten of) ∙ seen_long ps.places.items b old))
+    (λ t lt.
+    known_seen ps.places.items b row t ∙ by (place_of ps.places.items t) t refl ∙ ap (forgotten of) (sym (known_seen ps.places.items b old t))
+    ∙ sym (get_or-map (forgotten of) (seen ps.places.items b old) t Many))
+  where
+    mine : (c j t : ℕ) → place_of ps.places.items t ≡ Own c j → (d : Bool) → (c == b) ≡ d → (if d then known row.1 j else Many) ≡ forgotten of (if d then known old.1 j else Many)
+    mine c j t e true f = own j (subst (λ (k : ℕ). j < slice_index_or ps.counts.items k 0) (eqb-true c b f) (ps.are.given.within t c j e))
+    mine c j t e false f = refl
+
+    by : (p : Place) (t : ℕ) → place_of ps.places.items t ≡ p → at_place b row p ≡ forgotten of (at_place b old p)
+    by Nowhere t e = refl
+    by (Own c j) t e = mine c j t e (c == b) refl
+    by (Shared i) t e = elim (cases_lt i (length old.0)) [
+      | inl lt ↦ shared i lt
+      | inr past ↦ get_or_past row.0 i Many (omega (arith, past, long)) ∙ ap (forgotten of) (sym (get_or_past old.0 i Many past))
+    ]

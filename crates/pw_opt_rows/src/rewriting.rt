@@ -1,6 +1,6 @@
 //! Rewritings of flow graphs.
 
-ghost use Rattle.std.specs.Prelude.{ℕ, ◌≡◌, Bool, true, List, IfOk};
+ghost use Rattle.std.specs.Prelude.{ℕ, ◌≡◌, Bool, true, List, IfOk, MatchOption};
 ghost use Rattle.pw_flow.specs.declared.flow.Op.{Op as OpValue};
 ghost use Rattle.pw_opt_rules.specs.declared.flat.Flat.{Flat as FlatValue};
 ghost use Rattle.pw_opt_rules.specs.Rewriting.{Rewriting as RewritingValue};
@@ -35,9 +35,10 @@ pub trait Rewriting {
         ensures seen { seen_by view.now row.new ≡ (rewriting self.now).transfer (seen_by view.now row.old) op.now }
         ensures row { IsRowOf view.now.places.now row.new };
 
-    /// What becomes of an operation by what is known before it.
-    fn op(&self, alloc: Global, view: &View<'_>, row: &Row, op: &Op) -> Result<Op, NoMemory>
-        ensures { IfOk result (λ o. o ≡ (rewriting self.now).op (seen_by view.now row.now) op.now) };
+    /// What becomes of an operation by what is known before it; `None` where it stays.
+    fn op(&self, alloc: Global, view: &View<'_>, row: &Row, op: &Op) -> Result<Option<Op>, NoMemory>
+        ensures { IfOk result (λ new. MatchOption new (op.now ≡ (rewriting self.now).op (seen_by view.now row.now) op.now)
+            (λ o. o ≡ (rewriting self.now).op (seen_by view.now row.now) op.now)) };
 
     /// What becomes of the end of a block by what is known before it. Takes no memory.
     fn end(&self, view: &View<'_>, row: &Row, end: End) -> End

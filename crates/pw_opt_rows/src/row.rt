@@ -3,22 +3,28 @@
 ghost use Rattle.std.specs.Prelude.{ℕ, ◌≡◌, ◌<◌, ◌≤◌, ◌↔◌, length, replicate, slice_set, IsTrue, IfOk};
 ghost use Rattle.std.specs.Bool.{OnTrue, OnFalse};
 ghost use Rattle.pw_opt_rules.specs.declared.flat.Flat.TheVariants.{Bottom, Many};
+ghost use Rattle.pw_opt_rules.specs.Flat.{is_one};
 ghost use Rattle.pw_opt_rules.specs.Rows.{known, IsRowBelow};
+ghost use Rattle.pw_opt_order.specs.Order.{forgotten};
 ghost use Rattle.pw_opt_rows.specs.Joins.{joined, row_rank};
 ghost use Rattle.pw_opt_rows.specs.Places.{at_place, with_place};
 
 use crate::flats::{flat_below, join_flats, rank_of};
 use pw_opt_places::Place;
 use pw_opt_rules::Flat;
+use smallvec::SmallVec;
 use std::alloc::{AllocError as NoMemory, Global};
 use std::marker::Model;
+
+/// What is known at places, few of which need no allocation.
+type Flats = SmallVec<Flat, 8>;
 
 /// What is known of temporaries, by their places: of those that go from block to block, and of those that a block has for
 /// itself. What is past the end is not known.
 #[derive(Drop)]
 pub struct Row {
-    shared: Vec<Flat>,
-    own: Vec<Flat>,
+    shared: Flats,
+    own: Flats,
 }
 
 impl Model for Row {
@@ -36,8 +42,8 @@ impl Row {
         ensures shared { IfOk result (λ row. row.0 ≡ replicate shared Bottom) }
         ensures own { IfOk result (λ row. length row.1 ≡ own) }
     {
-        let shared = vec![in alloc; Flat::Bottom; shared]?;
-        let own = vec![in alloc; Flat::Many; own]?;
+        let shared = SmallVec::from_elem(alloc, Flat::Bottom, shared)?;
+        let own = SmallVec::from_elem(alloc, Flat::Many, own)?;
         Ok(Row { shared, own })
     }
 
@@ -49,12 +55,12 @@ impl Row {
             Place::Nowhere => Flat::Many,
             Place::Own(b, at) => {
                 if b == block {
-                    flat_at(&self.own, at)
+                    flat_at(self.own.as_slice(), at)
                 } else {
                     Flat::Many
                 }
             }
-            Place::Shared(at) => flat_at(&self.shared, at),
+            Place::Shared(at) => flat_at(self.shared.as_slice(), at),
         }
     }
 
@@ -64,8 +70,8 @@ impl Row {
     {
         match place {
             Place::Nowhere => {}
-            Place::Own(_, at) => set_flat(&mut self.own, at, to),
-            Place::Shared(at) => set_flat(&mut self.shared, at, to),
+            Place::Own(_, at) => set_flat(self.own.as_mut_slice(), at, to),
+            Place::Shared(at) => set_flat(self.shared.as_mut_slice(), at, to),
         }
     }
 
@@ -73,7 +79,7 @@ impl Row {
     pub(crate) fn set_many(&mut self)
         ensures { self.new ≡ (replicate (length self.old.0) Many, self.old.1) }
     {
-        self.shared.fill(Flat::Many);
+        self.shared.as_mut_slice().fill(Flat::Many);
     }
 
     /// Makes its shared places the same as those of another.
@@ -81,7 +87,7 @@ impl Row {
         requires { length self.old.0 ≡ length other.now.0 }
         ensures { self.new ≡ (other.now.0, self.old.1) }
     {
-        self.shared.copy_from_slice(&other.shared);
+        self.shared.as_mut_slice().copy_from_slice(other.shared.as_slice());
     }
 
     /// Sets the first of a block's own places to Many.
@@ -91,7 +97,20 @@ impl Row {
         ensures own { length self.new.1 ≡ length self.old.1 }
         ensures many { (j : ℕ) → j < count → known self.new.1 j ≡ Many }
     {
-        make_many(&mut self.own, count);
+        make_many(self.own.as_mut_slice(), count);
+    }
+
+    /// Forgets at shared places, and at the first of a block's own, that they have this one.
+    pub(crate) fn forget(&mut self, count: usize, of: u32)
+        requires { count ≤ length self.old.1 }
+        ensures shared { length self.new.0 ≡ length self.old.0 }
+        ensures own { length self.new.1 ≡ length self.old.1 }
+        ensures shared_gone { (i : ℕ) → i < length self.old.0 → known self.new.0 i ≡ forgotten of (known self.old.0 i) }
+        ensures own_gone { (j : ℕ) → j < count → known self.new.1 j ≡ forgotten of (known self.old.1 j) }
+    {
+        let shared = self.shared.len();
+        forget_first(self.shared.as_mut_slice(), shared, of);
+        forget_first(self.own.as_mut_slice(), count, of);
     }
 
     /// Joins the shared places of another one into its own, and answers whether a place has risen.
@@ -103,7 +122,7 @@ impl Row {
         ensures risen { OnTrue result (row_rank self.old.0 < row_rank self.new.0) }
         ensures stays { OnFalse result (self.new.0 ≡ self.old.0) }
     {
-        join_rows(&mut self.shared, &other.shared)
+        join_rows(self.shared.as_mut_slice(), other.shared.as_slice())
     }
 
     /// Whether each shared place is at or below that of another.
@@ -111,7 +130,7 @@ impl Row {
         requires { length self.now.0 ≡ length other.now.0 }
         ensures { IsTrue result ↔ IsRowBelow self.now.0 other.now.0 }
     {
-        rows_below(&self.shared, &other.shared)
+        rows_below(self.shared.as_slice(), other.shared.as_slice())
     }
 }
 
@@ -143,6 +162,29 @@ fn make_many(flats: &mut [Flat], count: usize)
 {
     for place in 0..count {
         flats[place] = Flat::Many;
+    }
+}
+
+/// Whether it is this one thing.
+fn is_one(known: Flat, n: u32) -> bool
+    ensures { result ≡ is_one n known }
+{
+    match known {
+        Flat::One(m) => m == n,
+        Flat::Bottom | Flat::Many => false,
+    }
+}
+
+/// Sets those of the first places that have this one to Many.
+fn forget_first(flats: &mut [Flat], count: usize, of: u32)
+    requires { count ≤ length flats.old }
+    ensures length { length flats.new ≡ length flats.old }
+    ensures gone { (j : ℕ) → j < count → known flats.new j ≡ forgotten of (known flats.old j) }
+{
+    for place in 0..count {
+        if is_one(flats[place], of) {
+            flats[place] = Flat::Many;
+        }
     }
 }
 

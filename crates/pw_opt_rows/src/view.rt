@@ -2,6 +2,7 @@
 
 ghost use Rattle.std.specs.Prelude.{◌≡◌, slice_set};
 ghost use Rattle.pw_opt_rules.specs.Rows.{known};
+ghost use Rattle.pw_opt_rules.specs.Copies.{without_copies};
 ghost use Rattle.pw_opt_places.specs.Places.{IsAtHome};
 ghost use Rattle.pw_opt_rows.specs.Seeing.{IsRowOf, rested, seen_by};
 
@@ -42,5 +43,14 @@ impl<'a> View<'a> {
         ensures row { IsRowOf self.now.places.now row.new }
     {
         row.renew(self.places.count(self.block));
+    }
+
+    /// Forgets of each temporary that it is a copy of this one.
+    pub fn forget(&self, row: &mut Row, of: u32)
+        requires { IsRowOf self.now.places.now row.old }
+        ensures seen { seen_by self.now row.new ≡ without_copies (seen_by self.now row.old) of }
+        ensures row { IsRowOf self.now.places.now row.new }
+    {
+        row.forget(self.places.count(self.block), of);
     }
 }

@@ -1,4 +1,4 @@
-use Rattle.std.proofs.Common.{◌∙◌, List, sym, ap, subst}
+use Rattle.std.proofs.Common.{◌≡◌, ◌∙◌, List, length, sym, ap, subst}
 use Rattle.pw_flow.specs.declared.flow.Block.{Block}
 use Rattle.pw_opt_rules.specs.declared.flat.Flat.{Flat}
 use Rattle.pw_opt_places.specs.Places.{DefineAtHome}
@@ -7,19 +7,13 @@ use Rattle.pw_opt_rows.specs.Outflows.{all_rested}
 use Rattle.pw_opt_rewrite.proofs.Alike.{rewritten_within}
 use Rattle.pw_opt_rewrite.proofs.blocks.rewrite.Goals as goal
 
-pub rewrite_blocks-requires-clause-home : goal.rewrite_blocks-requires-clause-home
-rewrite_blocks-requires-clause-home g c = subst (DefineAtHome c.in_ok-places.places.places.items) (sym c.as_slice.ensures) c.in_ok-places.ensures.home
-
 pub returns : goal.returns
 returns g c =
     let r = c.args.rewriting.now in
     let w = g.R.Rewriting.rewriting r in
     let ps = c.in_ok-places.places in
-    let f = c.args.f.now in
+    let f = c.args.f in
     let fronts = c.in_ok-fronts.fronts.items in
     let facts = c.in_ok-fronts.ensures in
-    let blocks = c.in_ok-blocks.ensures
-    ∙ ap (λ (rows : List (List Flat × List Flat)). rewritten_blocks w (all_rested ps rows) c.as_slice.result.now) c.deref_mut.ensures.value
-    ∙ ap (λ (bs : List Block). rewritten_blocks w (all_rested ps fronts) bs) c.as_slice.ensures in
-    rewritten_within w (g.met.R.Rewriting.rises r) (g.met.R.Rewriting.reads r) (g.R.Rewriting.may r) ps f c.in_ok-places.ensures fronts facts.known c.in_ok-new.new facts.own
-    (c.in_ok-new.ensures ∙ ap (with_blocks f) blocks)
+    let blocks = c.from_vec.ensures ∙ c.in_ok-rewrite_blocks.ensures in
+    rewritten_within w (g.met.R.Rewriting.rises r) (g.met.R.Rewriting.reads r) (g.R.Rewriting.may r) ps f c.in_ok-places.ensures fronts facts.known _ facts.own (ap (with_blocks f) blocks)

@@ -14,4 +14,4 @@ rewrite_block-requires-clause-may g c =
     subst (HasWhatMay may) (sym c.renew.ensures.seen) (own_may c.args.view.now.places.now may c.args.row.now c.requires.own)
 
 pub returns : goal.returns
-returns g c = c.in_ok-new.ensures ∙ ap (λ (row : List Flat). rewritten_block (g.R.Rewriting.rewriting c.args.rewriting.now) row c.args.block.now) c.renew.ensures.seen
+returns g c = c.in_ok-rewrite_block.ensures ∙ ap (λ (row : List Flat). rewritten_block (g.R.Rewriting.rewriting c.args.rewriting.now) row c.args.block.now) c.renew.ensures.seen
