@@ -11,6 +11,7 @@ use pw_items::Items;
 use pw_opt_constants::Constants;
 use pw_opt_copies::Originals;
 use pw_opt_dead::remove_dead;
+use pw_opt_places::Places;
 use pw_opt_quiet::Quiet;
 use pw_opt_rewrite::rewrite;
 use pw_opt_rules::OPTIMISE_LIMIT;
@@ -40,9 +41,10 @@ fn optimise_function(
     if !is_small(f) {
         return Ok(same);
     }
-    let folded = rewrite(alloc, constants, same)?;
+    let places = Places::of(alloc, &same)?;
+    let folded = rewrite(alloc, constants, &places, same)?;
     let originals = Originals::new(alloc, &folded)?;
-    let copied = rewrite(alloc, &originals, folded)?;
+    let copied = rewrite(alloc, &originals, &places, folded)?;
     let live = remove_dead(alloc, quiet, copied)?;
     Ok(live)
 }

@@ -43,15 +43,16 @@ pub(crate) struct Given {
 }
 
 impl Given {
-    /// None so far, for a function of so many blocks.
-    fn none(alloc: Global, blocks: usize) -> Result<Given, NoMemory>
+    /// None so far, for a function of so many temporaries and blocks.
+    fn none(alloc: Global, temps: usize, blocks: usize) -> Result<Given, NoMemory>
         ensures are { IfOk result AreGivenIn }
         ensures places { IfOk result (λ given. given.places.items ≡ []) }
         ensures blocks { IfOk result (λ given. length given.counts.items ≡ blocks) }
     {
+        let places = Vec::with_capacity(alloc, temps)?;
         let counts = vec![in alloc; 0; blocks]?;
         Ok(Given {
-            places: Vec::new(alloc),
+            places,
             names: Vec::new(alloc),
             counts,
         })
@@ -165,7 +166,7 @@ impl Places {
         ensures { IfOk result (λ places. ArePlacesOf f.now places.places.items) }
     {
         let homes = Homes::of(alloc, f)?;
-        let mut given = Given::none(alloc, f.blocks.len())?;
+        let mut given = Given::none(alloc, f.temps as usize, f.blocks.len())?;
         given.give_all(f.temps, &homes)?;
         let own = greatest(&given.counts);
         let Given {

@@ -4,7 +4,7 @@ ghost use Rattle.std.specs.Prelude.{◌≡◌, true, length, All, IfOk, OnOk, Ma
 ghost use Rattle.pw_flow.specs.declared.flow.Op.{Op as OpValue};
 ghost use Rattle.pw_opt_rules.specs.Rows.{behind};
 ghost use Rattle.pw_opt_rules.specs.Rewriting.{rewritten_ops, rewritten_block, rewritten_blocks};
-ghost use Rattle.pw_opt_places.specs.Places.{DefinesAtHome, DefineAtHome};
+ghost use Rattle.pw_opt_places.specs.Places.{DefinesAtHome, DefineAtHome, ArePlacesOf};
 ghost use Rattle.pw_opt_rows.specs.Joins.{HasWhatMay};
 ghost use Rattle.pw_opt_rows.specs.Outflows.{AreAbout, HasWays, all_rested};
 ghost use Rattle.pw_opt_rows.specs.Seeing.{IsOwn, IsRowOf, rested, seen_by};
@@ -133,18 +133,23 @@ fn rewrite_blocks<R: Rewriting>(
     Ok(())
 }
 
-/// The function by the least solution of what is known in it.
+/// The function by the least solution of what is known in it. The places are those of its temporaries.
 ///
 /// # Errors
 ///
 /// `NoMemory` where there is no memory for what is known, and for what takes the place of operations.
-pub fn rewrite<R: Rewriting>(alloc: Global, rewriting: &R, f: FlowFn) -> Result<FlowFn, NoMemory>
+pub fn rewrite<R: Rewriting>(
+    alloc: Global,
+    rewriting: &R,
+    places: &Places,
+    f: FlowFn,
+) -> Result<FlowFn, NoMemory>
     requires ways { HasWays f.blocks }
     requires about { All (AreAbout (R.is_about rewriting.now)) f.blocks }
+    requires places { ArePlacesOf f places.now.places.items }
     ensures { IfOk result (IsRewrittenWithin (R.rewriting rewriting.now) (R.may rewriting.now) f) }
 {
-    let places = Places::of(alloc, &f)?;
-    let mut fronts = find_fronts(alloc, rewriting, &places, &f)?;
+    let mut fronts = find_fronts(alloc, rewriting, places, &f)?;
     let FlowFn {
         name,
         shape,
@@ -154,7 +159,7 @@ pub fn rewrite<R: Rewriting>(alloc: Global, rewriting: &R, f: FlowFn) -> Result<
         blocks,
     } = f;
     let mut blocks = blocks.into_vec();
-    rewrite_blocks(alloc, rewriting, &places, &mut fronts, &mut blocks)?;
+    rewrite_blocks(alloc, rewriting, places, &mut fronts, &mut blocks)?;
     let blocks = Items::from_vec(blocks);
     Ok(FlowFn {
         name,

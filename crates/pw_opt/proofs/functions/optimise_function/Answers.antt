@@ -8,6 +8,7 @@ use Rattle.pw_opt_rows.specs.Outflows.{HasWays}
 use Rattle.pw_opt_rewrite.specs.Within.{IsRewrittenWithin}
 use Rattle.pw_opt_copies.specs.Originals.{may_copy}
 use Rattle.pw_opt.proofs.Sound.{lawful_sound, sound_ways, sound_copies, sound_outline, folded_sound, copied_sound}
+use Rattle.pw_opt.proofs.Homes.{places_stay}
 use Rattle.pw_opt.proofs.Listing.{is_rewritten}
 use Rattle.pw_opt.proofs.functions.optimise_function.Goals as goal
 
@@ -34,6 +35,12 @@ rewrite-requires-2-clause-ways c =
     let folded = c.in_ok-folded.folded in
     let from = subst (λ (g : FlowFn). IsRewrittenWithin constants (λ _ _. true) g folded) c.in_ok-same.ensures c.in_ok-folded.ensures in
     sound_ways folded (folded_sound c.args.f.now folded c.requires from)
+
+pub rewrite-requires-clause-places : goal.rewrite-requires-clause-places
+rewrite-requires-clause-places c = c.in_ok-places.ensures
+
+pub rewrite-requires-2-clause-places : goal.rewrite-requires-2-clause-places
+rewrite-requires-2-clause-places c = places_stay (λ _ _. true) c.in_ok-same.same c.in_ok-folded.folded c.in_ok-places.places.places.items c.in_ok-places.ensures c.in_ok-folded.ensures
 
 pub remove_dead-requires : goal.remove_dead-requires
 remove_dead-requires c =

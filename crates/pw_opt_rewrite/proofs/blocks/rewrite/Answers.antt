@@ -11,9 +11,9 @@ pub returns : goal.returns
 returns g c =
     let r = c.args.rewriting.now in
     let w = g.R.Rewriting.rewriting r in
-    let ps = c.in_ok-places.places in
+    let ps = c.args.places.now in
     let f = c.args.f in
     let fronts = c.in_ok-fronts.fronts.items in
     let facts = c.in_ok-fronts.ensures in
     let blocks = c.from_vec.ensures ∙ c.in_ok-rewrite_blocks.ensures in
-    rewritten_within w (g.met.R.Rewriting.rises r) (g.met.R.Rewriting.reads r) (g.R.Rewriting.may r) ps f c.in_ok-places.ensures fronts facts.known _ facts.own (ap (with_blocks f) blocks)
+    rewritten_within w (g.met.R.Rewriting.rises r) (g.met.R.Rewriting.reads r) (g.R.Rewriting.may r) ps f c.requires.places fronts facts.known _ facts.own (ap (with_blocks f) blocks)
