@@ -134,9 +134,9 @@ fn stretch(alloc: Global, block: &Block) -> Result<Stretch, NoMemory>
 pub fn outline_of(alloc: Global, f: &FlowFn) -> Result<Outline, NoMemory>
     ensures { IfOk result (λ o. o ≡ outline_of f.now) }
 {
-    let mut blocks = Items::new(alloc);
+    let mut blocks = Vec::with_capacity(alloc, f.blocks.len())?;
     for block in f.blocks.as_slice() {
         blocks.push(stretch(alloc, block)?)?;
     }
-    Ok(Outline::new(f.params, f.temps, blocks))
+    Ok(Outline::new(f.params, f.temps, Items::from_vec(blocks)))
 }

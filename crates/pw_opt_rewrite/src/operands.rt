@@ -25,14 +25,14 @@ pub fn original(view: &View<'_>, row: &Row, a: u32) -> u32
 
 /// Whether another temporary stands for an operand.
 fn has_original(view: &View<'_>, row: &Row, a: u32) -> bool
-    ensures { OnFalse result (original (seen_by view.now row.now) a ≡ a) }
+    ensures { OnFalse result (a ≡ original (seen_by view.now row.now) a) }
 {
     original(view, row, a) != a
 }
 
 /// Whether another temporary stands for one of several operands.
 fn some_has_original(view: &View<'_>, row: &Row, args: &[u32]) -> bool
-    ensures { OnFalse result (map (original (seen_by view.now row.now)) args.now ≡ args.now) }
+    ensures { OnFalse result (args.now ≡ map (original (seen_by view.now row.now)) args.now) }
 {
     for &a in args {
         if has_original(view, row, a) {
@@ -44,7 +44,7 @@ fn some_has_original(view: &View<'_>, row: &Row, args: &[u32]) -> bool
 
 /// Whether another temporary stands for an operand of an operation.
 pub fn have_originals(view: &View<'_>, row: &Row, op: &Op) -> bool
-    ensures { OnFalse result (with_operands (original (seen_by view.now row.now)) op.now ≡ op.now) }
+    ensures { OnFalse result (op.now ≡ with_operands (original (seen_by view.now row.now)) op.now) }
 {
     match op {
         Op::Const(_, _)

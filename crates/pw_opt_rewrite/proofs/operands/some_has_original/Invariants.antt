@@ -4,4 +4,4 @@ use Rattle.pw_opt_rows.specs.Seeing.{seen_by}
 use Rattle.pw_opt_rewrite.proofs.operands.some_has_original.Given as goal
 
 abbrev pub invariant-loop-a : goal.invariant-loop-a
-invariant-loop-a l = map (original (seen_by l.view l.row)) (take l.a-index l.args) ≡ take l.a-index l.args
+invariant-loop-a l = take l.a-index l.args ≡ map (original (seen_by l.view l.row)) (take l.a-index l.args)
