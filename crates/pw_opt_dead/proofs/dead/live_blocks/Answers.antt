@@ -2,8 +2,7 @@ use Rattle.std.proofs.Common.{◌≡◌, ◌∙◌, ◌<◌, ℕ, List, length, 
 use Rattle.std.specs.Prelude.{Some, slice_get, vec_len}
 use Rattle.std.proofs.lemmas.Option.{slice_get_read}
 use Rattle.pw_flow.specs.Outline.{Stretch}
-use Rattle.pw_opt_dead.proofs.Marking.{none_marked}
-use Rattle.pw_opt_dead.proofs.Walking.{blocks_none, stretch_last, stretch_within, blocks_more}
+use Rattle.pw_opt_dead.proofs.Walking.{stretch_within, blocks_more}
 use Rattle.pw_opt_dead.proofs.dead.live_blocks.Goals as goal
 
 pub loop-block-preserved : goal.loop-block-preserved
@@ -18,7 +17,7 @@ loop-block-preserved c =
     let s = c.index-blocks-place.result in
     let inv = c.loop-block.invariant in
     let popped = c.in-Some.ensures in
-    let place : c.len.result ≡ length shorter = c.len.ensures in
+    let place : c.len-place.result ≡ length shorter = c.len-place.ensures in
     let is : s ≡ get_or o.blocks (length shorter) s = c.index-blocks-place.is ∙ ap (λ (n : ℕ). get_or c.blocks.result.now n s) place ∙ ap (λ (ss : List Stretch). get_or ss (length shorter) s) c.blocks.ensures in
     let within : length shorter < length o.blocks = stretch_within m o all left shorter new b o.blocks inv.walk popped c.requires.blocks in
     let at : slice_get o.blocks (length shorter) ≡ Some s = slice_get_read o.blocks (length o.blocks) (length shorter) s refl within is in
