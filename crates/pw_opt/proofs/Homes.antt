@@ -35,7 +35,7 @@ defines_stay row o = refl
 
 const_uses : (t : ℕ) (x : Flat) (o : Op) (u : ℕ) → Contains (op_uses (const_or t x o)) u → Contains (op_uses o) u
 const_uses t Bottom o u c = c
-const_uses t (One n) o u c = absurd (let lt = c.1 in omega (arith, lt))
+const_uses t (One n) o u c = absurd (let lt : c.0 < 0 = c.1 in omega (arith, lt))
 const_uses t Many o u c = c
 
 fewer_uses : (row : List Flat) (o : Op) (u : ℕ) → Contains (op_uses (constant_op row o)) u → Contains (op_uses o) u
@@ -47,8 +47,8 @@ fewer_uses row o u c = c
 
 jump_uses : (x : Flat) (a b c u : ℕ) → Contains (end_uses (jump_or x a b c)) u → Contains (a ∷ []) u
 jump_uses Bottom a b c u k = k
-jump_uses (One zero) a b c u k = absurd (let lt = k.1 in omega (arith, lt))
-jump_uses (One (suc n)) a b c u k = absurd (let lt = k.1 in omega (arith, lt))
+jump_uses (One zero) a b c u k = absurd (let lt : k.0 < 0 = k.1 in omega (arith, lt))
+jump_uses (One (suc n)) a b c u k = absurd (let lt : k.0 < 0 = k.1 in omega (arith, lt))
 jump_uses Many a b c u k = k
 
 fewer_end_uses : (row : List Flat) (e : End) (u : ℕ) → Contains (end_uses (constant_end row e)) u → Contains (end_uses e) u
@@ -74,7 +74,7 @@ ops_home places b row (o ∷ ops) all (suc k) d lt = ops_home places b (constant
 
 block_of : (rows : List (List Flat)) (bs : List Block) (k : ℕ) (new : Block) → slice_get (rewritten_blocks constants rows bs) k ≡ Some new
     → (row : List Flat) × (b : Block) × (slice_get bs k ≡ Some b) × (new ≡ rewritten_block constants row b)
-block_of rows [] k new e = absurd (let lt = slice_get_within [] k new e in omega (arith, lt))
+block_of rows [] k new e = absurd (let lt : k < 0 = slice_get_within [] k new e in omega (arith, lt))
 block_of [] (b ∷ bs) zero new e = ([], b, refl, same_Some new (rewritten_block constants [] b) (sym e))
 block_of [] (b ∷ bs) (suc k) new e = block_of [] bs k new e
 block_of (row ∷ rows) (b ∷ bs) zero new e = (row, b, refl, same_Some new (rewritten_block constants row b) (sym e))
