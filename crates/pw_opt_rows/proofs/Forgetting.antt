@@ -1,5 +1,5 @@
--- Places of a row: as many as are made, and those at which nothing has one thing any more.
-use Rattle.std.proofs.Common.{◌≡◌, ◌∙◌, ℕ, zero, suc, replicate, take, [], ◌∷◌, ◌+◌, ◌<◌, ◌≤◌, Bool, true, false, List, length, refl, sym, ap, subst, arith, inl, inr}
+-- Places of a row at which nothing has one thing any more.
+use Rattle.std.proofs.Common.{◌≡◌, ◌∙◌, ℕ, ◌+◌, ◌<◌, ◌≤◌, Bool, true, false, List, length, refl, sym, ap, subst, arith, inl, inr}
 use Rattle.std.specs.Prelude.{if◌then◌else◌, slice_set}
 use Rattle.std.proofs.lemmas.Bool.{cases_eq}
 use Rattle.std.proofs.lemmas.List.{get_or-set_same, get_or-set_other}
@@ -8,11 +8,6 @@ use Rattle.pw_opt_rules.specs.declared.flat.Flat.TheVariants.{Many}
 use Rattle.pw_opt_rules.specs.Flat.{is_one}
 use Rattle.pw_opt_rules.specs.Rows.{known}
 use Rattle.pw_opt_order.specs.Order.{forgotten}
-
-pub take_replicate : {X : Type 0} (n m : ℕ) (x : X) → m ≤ n → take m (replicate n x) ≡ replicate m x
-take_replicate n zero x le = refl
-take_replicate zero (suc m) x le = absurd (omega (arith, le))
-take_replicate (suc n) (suc m) x le = ap (λ (xs : List X). x ∷ xs) (take_replicate n m x (omega (arith, le)))
 
 -- the first places are done, and the others are as they were
 pub record ForgetsBelow (of : ℕ) (old : List Flat) (count : ℕ) (row : List Flat) : Type 0 where

@@ -16,11 +16,8 @@ use smallvec::SmallVec;
 use std::alloc::{AllocError as NoMemory, Global};
 use std::marker::Model;
 
-/// As many places need no allocation.
-const FEW: usize = 8;
-
-/// What is known at places.
-type Flats = SmallVec<Flat, FEW>;
+/// What is known at places, few of which need no allocation.
+type Flats = SmallVec<Flat, 8>;
 
 /// What is known of temporaries, by their places: of those that go from block to block, and of those that a block has for
 /// itself. What is past the end is not known.
@@ -45,8 +42,8 @@ impl Row {
         ensures shared { IfOk result (λ row. row.0 ≡ replicate shared Bottom) }
         ensures own { IfOk result (λ row. length row.1 ≡ own) }
     {
-        let shared = filled(alloc, Flat::Bottom, shared)?;
-        let own = filled(alloc, Flat::Many, own)?;
+        let shared = SmallVec::from_elem(alloc, Flat::Bottom, shared)?;
+        let own = SmallVec::from_elem(alloc, Flat::Many, own)?;
         Ok(Row { shared, own })
     }
 
@@ -135,16 +132,6 @@ impl Row {
     {
         rows_below(self.shared.as_slice(), other.shared.as_slice())
     }
-}
-
-/// The same at so many places.
-fn filled(alloc: Global, known: Flat, count: usize) -> Result<Flats, NoMemory>
-    ensures { IfOk result (λ flats. flats.items ≡ replicate count known) }
-{
-    if count <= FEW {
-        return Ok(SmallVec::from_buf_and_len(alloc, [known; FEW], count));
-    }
-    SmallVec::from_elem(alloc, known, count)
 }
 
 /// What stands at a place; past the end it is Many.
