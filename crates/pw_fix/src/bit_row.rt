@@ -65,6 +65,7 @@ impl BitRow {
         ensures least { IfSome result (λ i. (k : ℕ) → from ≤ k → k < i → ¬ (Holds self.now k)) }
         ensures none { IfNone result ((k : ℕ) → from ≤ k → ¬ (Holds self.now k)) }
     {
+        let _len = self.len;
         next_bit(self.words.as_slice(), from)
     }
 

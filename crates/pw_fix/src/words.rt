@@ -1,6 +1,6 @@
 //! Sets of numbers as bits of words, a word at a time.
 
-ghost use Rattle.std.specs.Prelude.{◌≡◌, ℕ, ◌<◌, ◌≤◌, ◌/◌, ◌⊎◌, ◌↔◌, length, IsTrue, IfOk, IfSome, IfNone};
+ghost use Rattle.std.specs.Prelude.{◌≡◌, ℕ, ◌<◌, ◌≤◌, ◌/◌, ◌^◌, ◌⊎◌, ◌↔◌, length, IsTrue, IfOk, IfSome, IfNone};
 ghost use Rattle.std.specs.Int.{div_ceil};
 ghost use Rattle.std.specs.Bool.{OnTrue, OnFalse};
 ghost use Rattle.pw_fix.specs.Words.{HasBit};
@@ -30,6 +30,7 @@ pub(crate) fn set_bit(words: &mut [u64], i: usize) -> bool
 
 /// The least bit that is set, from `from` on.
 pub(crate) fn next_bit(words: &[u64], from: usize) -> Option<usize>
+    requires { length words.now ≤ 2 ^ 58 }
     ensures found { IfSome result (λ i. (from ≤ i) × HasBit words.now i) }
     ensures least { IfSome result (λ i. (k : ℕ) → from ≤ k → k < i → ¬ (HasBit words.now k)) }
     ensures none { IfNone result ((k : ℕ) → from ≤ k → ¬ (HasBit words.now k)) }

@@ -1,4 +1,6 @@
-use Rattle.std.proofs.Common.{◌<◌, ◌≤◌, ℕ, List, inl, inr, ap, subst}
+use Rattle.std.proofs.Common.{rules, Fits, w64, ◌≡◌, ◌<◌, ◌≤◌, ◌^◌, ℕ, List, length, arith, inl, inr, ap, sym, subst}
+use Rattle.std.proofs.Math.Facts.{Fits-lt-pow}
+use Rattle.std.specs.Int.{div_ceil}
 use Rattle.std.proofs.lemmas.Bool.{cases_lt}
 use Rattle.std.specs.Prelude.{Option, None, Some, IfSome}
 use Rattle.pw_fix.specs.Words.{HasBit}
@@ -13,6 +15,15 @@ held_within row i h = elim (cases_lt i row.len) [ inl fine ↦ fine | inr past �
 found_within : (row : BitRow) (from : ℕ) (found : Option ℕ) → IfSome found (λ i. (from ≤ i) × Holds row i) → IfSome found (λ i. (from ≤ i) × (i < row.len) × Holds row i)
 found_within row from None h = tt
 found_within row from (Some i) h = (h.0, held_within row i h.1, h.1)
+
+few_words : (len n : ℕ) → n ≡ div_ceil len 64 → len < 2 ^ 64 → n ≤ 2 ^ 58
+few_words len n e h = rw e (omega arith)
+
+pub next_bit-requires : goal.next_bit-requires
+next_bit-requires c =
+    let row = c.args.self.now in
+    let fits : Fits w64 row.len = search rules in
+    subst (λ (ws : List ℕ). length ws ≤ 2 ^ 58) (sym c.as_slice.ensures) (few_words row.len (length row.words.items) row.enough (Fits-lt-pow fits))
 
 pub returns-clause-found : goal.returns-clause-found
 returns-clause-found c =
