@@ -1,4 +1,4 @@
-use Rattle.std.proofs.Common.{rules, Fits, w64, ◌≡◌, ◌<◌, ◌≤◌, ◌^◌, ℕ, List, length, arith, inl, inr, ap, sym, subst}
+use Rattle.std.proofs.Common.{rules, Fits, w64, ◌≡◌, ◌<◌, ◌≤◌, ◌^◌, ℕ, List, length, arith, inl, inr, sym, subst}
 use Rattle.std.proofs.Math.Facts.{Fits-lt-pow}
 use Rattle.std.specs.Int.{div_ceil}
 use Rattle.std.proofs.lemmas.Bool.{cases_lt}
