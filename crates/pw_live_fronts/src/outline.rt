@@ -4,13 +4,17 @@ ghost use Rattle.std.specs.Prelude.{◌≡◌};
 ghost use Rattle.pw_flow.specs.Outline.{Act as ActValue, Stretch as StretchValue, Outline as OutlineValue};
 
 use pw_items::Items;
+use smallvec::SmallVec;
 use std::marker::Model;
+
+/// Numbers of temporaries or blocks, of which there are two at most in all but calls.
+pub type Few = SmallVec<u32, 2>;
 
 /// An operation: the temporary that it writes, those that it reads, each operand by itself, and whether it calls.
 #[derive(Drop)]
 pub struct Act {
     defines: Option<u32>,
-    uses: Items<u32>,
+    uses: Few,
     calls: bool,
 }
 
@@ -19,13 +23,13 @@ impl Model for Act {
 
     ghost Value = { ActValue };
 
-    ghost view = { λ a. record { defines = a.defines; uses = a.uses; calls = a.calls } };
+    ghost view = { λ a. record { defines = a.defines; uses = a.uses.items; calls = a.calls } };
 }
 
 impl Act {
     /// An operation of these parts.
-    pub fn new(defines: Option<u32>, uses: Items<u32>, calls: bool) -> Act
-        ensures { result ≡ record { defines = defines; uses = uses; calls = calls } }
+    pub fn new(defines: Option<u32>, uses: Few, calls: bool) -> Act
+        ensures { result ≡ record { defines = defines; uses = uses.items; calls = calls } }
     {
         Act {
             defines,
@@ -63,8 +67,8 @@ impl Act {
 pub struct Stretch {
     depth: u32,
     acts: Items<Act>,
-    uses: Items<u32>,
-    next: Items<u32>,
+    uses: Few,
+    next: Few,
 }
 
 impl Model for Stretch {
@@ -72,13 +76,13 @@ impl Model for Stretch {
 
     ghost Value = { StretchValue };
 
-    ghost view = { λ s. record { depth = s.depth; acts = s.acts; uses = s.uses; next = s.next } };
+    ghost view = { λ s. record { depth = s.depth; acts = s.acts; uses = s.uses.items; next = s.next.items } };
 }
 
 impl Stretch {
     /// A block of these parts.
-    pub fn new(depth: u32, acts: Items<Act>, uses: Items<u32>, next: Items<u32>) -> Stretch
-        ensures { result ≡ record { depth = depth; acts = acts; uses = uses; next = next } }
+    pub fn new(depth: u32, acts: Items<Act>, uses: Few, next: Few) -> Stretch
+        ensures { result ≡ record { depth = depth; acts = acts; uses = uses.items; next = next.items } }
     {
         Stretch {
             depth,

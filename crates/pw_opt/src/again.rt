@@ -11,11 +11,11 @@ use std::alloc::{AllocError as NoMemory, Global};
 fn same_ops(alloc: Global, constants: &Constants, ops: &[Op]) -> Result<Items<Op>, NoMemory>
     ensures { IfOk result (λ v. v ≡ ops.now) }
 {
-    let mut same = Items::new(alloc);
+    let mut same = Vec::with_capacity(alloc, ops.len())?;
     for op in ops {
         same.push(constants.same(alloc, op)?)?;
     }
-    Ok(same)
+    Ok(Items::from_vec(same))
 }
 
 /// The same blocks again.
