@@ -93,9 +93,9 @@ same_views n (x ∷ xs) (y ∷ ys) e =
 pub pair_decides : (x y : List ℕ × List ℕ) → Decides (bytes_eq x.0 y.0 && bytes_eq x.1 y.1) (x ≡ y)
 pair_decides x y = (
   λ e.
-    let one : x.0 ≡ y.0 = (bytes_eq-Decides x.0 y.0).0 (first_so (bytes_eq x.0 y.0) (bytes_eq x.1 y.1) e) in
-    let other : x.1 ≡ y.1 = (bytes_eq-Decides x.1 y.1).0 (second_so (bytes_eq x.0 y.0) (bytes_eq x.1 y.1) e) in
-    λ i. (one i, other i),
+      let one : x.0 ≡ y.0 = (bytes_eq-Decides x.0 y.0).0 (first_so (bytes_eq x.0 y.0) (bytes_eq x.1 y.1) e) in
+      let other : x.1 ≡ y.1 = (bytes_eq-Decides x.1 y.1).0 (second_so (bytes_eq x.0 y.0) (bytes_eq x.1 y.1) e) in
+      λ i. (one i, other i),
   λ e. both_true ((bytes_eq-Decides x.0 y.0).1 (ap (λ (p : List ℕ × List ℕ). p.0) e)) ((bytes_eq-Decides x.1 y.1).1 (ap (λ (p : List ℕ × List ℕ). p.1) e)),
 )
 

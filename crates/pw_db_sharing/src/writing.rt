@@ -32,7 +32,11 @@ fn push_list(out: &mut Vec<u8>, registers: &[u8]) -> Result<(), AllocError>
 
 /// Writes the registers that a function shares with others, in the form of a version: a count of none stands for them in the
 /// first.
-pub fn push_sharing(out: &mut Vec<u8>, version: u32, directives: &Directives) -> Result<(), AllocError>
+pub fn push_sharing(
+    out: &mut Vec<u8>,
+    version: u32,
+    directives: &Directives,
+) -> Result<(), AllocError>
     ensures { OnOk result (out.new.items ≡ out.old.items ++ sharing version (directives.now.free, directives.now.saves)) }
 {
     if version == FIRST {

@@ -95,7 +95,9 @@ impl BitRow {
         ensures length { self.new.len ≡ self.old.len }
         ensures holds { (k : ℕ) → Holds self.new k ↔ Holds other.now k }
     {
-        self.words.as_mut_slice().copy_from_slice(other.words.as_slice())
+        self.words
+            .as_mut_slice()
+            .copy_from_slice(other.words.as_slice())
     }
 
     /// Whether each number of the set is one of `other`.

@@ -93,7 +93,6 @@ impl Constants {
         let same = with_originals(alloc, &view, &self.nothing, op)?;
         Ok(same)
     }
-
 }
 
 impl Rewriting for Constants {
@@ -116,7 +115,13 @@ impl Rewriting for Constants {
         }
     }
 
-    fn op(&self, _alloc: Global, view: &View<'_>, row: &Row, op: &Op) -> Result<Option<Op>, NoMemory> {
+    fn op(
+        &self,
+        _alloc: Global,
+        view: &View<'_>,
+        row: &Row,
+        op: &Op,
+    ) -> Result<Option<Op>, NoMemory> {
         Ok(constant_in(op, constant_of(view, row, op)))
     }
 

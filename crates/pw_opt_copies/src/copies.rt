@@ -40,7 +40,13 @@ impl Rewriting for Originals {
         }
     }
 
-    fn op(&self, alloc: Global, view: &View<'_>, row: &Row, op: &Op) -> Result<Option<Op>, NoMemory> {
+    fn op(
+        &self,
+        alloc: Global,
+        view: &View<'_>,
+        row: &Row,
+        op: &Op,
+    ) -> Result<Option<Op>, NoMemory> {
         if have_originals(view, row, op) {
             let new = with_originals(alloc, view, row, op)?;
             return Ok(Some(new));

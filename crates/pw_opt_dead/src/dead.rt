@@ -102,7 +102,13 @@ fn live_block(
     ensures none { OnOk result ((f : OutlineValue) → AreFronts f fronts.now → slice_get f.blocks place ≡ Some stretch.now → (t : ℕ) → is_marked room.new.live.items t ≡ false) }
 {
     let Block { depth, ops, end } = block;
-    mark_end(&mut room.live, &mut room.at, fronts, stretch.uses(), stretch.next())?;
+    mark_end(
+        &mut room.live,
+        &mut room.at,
+        fronts,
+        stretch.uses(),
+        stretch.next(),
+    )?;
     let mut kept = kept_ops(alloc, quiet, &mut room.live, ops, stretch.acts())?;
     unmark_front(&mut room.live, &mut room.at, fronts, place)?;
     longer_paths_add_nothing();

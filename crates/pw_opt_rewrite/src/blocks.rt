@@ -128,7 +128,13 @@ fn rewrite_blocks<R: Rewriting>(
             places,
             block: place,
         };
-        rewrite_at(alloc, rewriting, &view, &mut fronts[place], &mut blocks[place])?;
+        rewrite_at(
+            alloc,
+            rewriting,
+            &view,
+            &mut fronts[place],
+            &mut blocks[place],
+        )?;
     }
     Ok(())
 }

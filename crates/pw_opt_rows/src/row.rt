@@ -87,7 +87,9 @@ impl Row {
         requires { length self.old.0 ≡ length other.now.0 }
         ensures { self.new ≡ (other.now.0, self.old.1) }
     {
-        self.shared.as_mut_slice().copy_from_slice(other.shared.as_slice());
+        self.shared
+            .as_mut_slice()
+            .copy_from_slice(other.shared.as_slice());
     }
 
     /// Sets the first of a block's own places to Many.

@@ -18,8 +18,7 @@ use pw_cpp::CppFault;
 use pw_io::laws::{front, names, other_files};
 use pw_io::{Store, StoreError};
 use pw_store_modules::{
-    Module, ModulesFault, TEXT_READ, module_files_of, modules_are_exact, read_modules,
-    read_sources,
+    Module, ModulesFault, TEXT_READ, module_files_of, modules_are_exact, read_modules, read_sources,
 };
 use pw_value::Name;
 use pw_value::limits::{MODULE_LIMIT, TEXTS_LIMIT};
