@@ -64,7 +64,7 @@ blocks_now w rows bs k row b made old new lt low is_row is e so_far pushed =
 pub take_set : {X : Type 0} (xs : List X) (k : ℕ) (x : X) → k < length xs → take (k + 1) (set xs k x) ≡ take k xs ++ x ∷ []
 take_set [] k x lt = absurd (omega (arith, lt))
 take_set (y ∷ ys) zero x lt = refl
-take_set (y ∷ ys) (suc k) x lt =
+take_set {X = X} (y ∷ ys) (suc k) x lt =
     let longer : suc k + 1 ≡ suc (k + 1) = omega arith in
     ap (λ (n : ℕ). take n (y ∷ set ys k x)) longer ∙ ap (λ (zs : List X). y ∷ zs) (take_set ys k x (omega (arith, lt)))
 

@@ -15,5 +15,5 @@ returns g c =
     let f = c.args.f in
     let fronts = c.in_ok-fronts.fronts.items in
     let facts = c.in_ok-fronts.ensures in
-    let blocks = c.from_vec.ensures ∙ c.in_ok-rewrite_blocks.ensures in
+    let blocks = c.from_vec-blocks.ensures ∙ c.in_ok-rewrite_blocks.ensures in
     rewritten_within w (g.met.R.Rewriting.rises r) (g.met.R.Rewriting.reads r) (g.R.Rewriting.may r) ps f c.requires.places fronts facts.known _ facts.own (ap (with_blocks f) blocks)
