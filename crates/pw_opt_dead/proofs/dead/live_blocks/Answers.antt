@@ -18,7 +18,7 @@ loop-block-preserved c =
     let inv = c.loop-block.invariant in
     let popped = c.in-Some.ensures in
     let place : c.len-place.result ≡ length shorter = c.len-place.ensures in
-    let is : s ≡ get_or o.blocks (length shorter) s = c.index-blocks-place.is ∙ ap (λ (n : ℕ). get_or c.blocks.result.now n s) place ∙ ap (λ (ss : List Stretch). get_or ss (length shorter) s) c.blocks.ensures in
+    let is : s ≡ get_or o.blocks (length shorter) s = c.index-blocks-place.is ∙ ap (λ (n : ℕ). get_or c.blocks-in-Some.result.now n s) place ∙ ap (λ (ss : List Stretch). get_or ss (length shorter) s) c.blocks-in-Some.ensures in
     let within : length shorter < length o.blocks = stretch_within m o all left shorter new b o.blocks inv.walk popped c.requires.blocks in
     let at : slice_get o.blocks (length shorter) ≡ Some s = slice_get_read o.blocks (length o.blocks) (length shorter) s refl within is in
     record {

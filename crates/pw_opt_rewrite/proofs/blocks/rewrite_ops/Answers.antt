@@ -1,5 +1,5 @@
 use Rattle.std.proofs.Common.{◌≡◌, ◌∙◌, ◌<◌, ◌+◌, true, List, length, get_or, take, set, sym, ap, subst, arith}
-use Rattle.std.proofs.lemmas.List.{take_all}
+use Rattle.std.proofs.lemmas.List.{take_all, get_or_default}
 use Rattle.pw_flow.specs.declared.flow.Op.{Op}
 use Rattle.pw_opt_rules.specs.Rows.{behind}
 use Rattle.pw_opt_rules.specs.Rewriting.{rewritten_ops}
@@ -12,16 +12,18 @@ use Rattle.pw_opt_rewrite.proofs.blocks.rewrite_ops.Goals as goal
 pub rewrite_op-requires-clause-about : goal.rewrite_op-requires-clause-about
 rewrite_op-requires-clause-about g c =
     let i = c.loop-place.place in
-    let o = c.index-ops-place.result in
-    let is : o ≡ get_or c.args.ops.now i o = c.index-ops-place.is ∙ c.loop-place.invariant.rest i o (omega arith) in
+    let x = c.index-ops-place.result in
+    let o = get_or c.loop-place.ops i x in
+    let is : o ≡ get_or c.args.ops.now i o = c.loop-place.invariant.rest i x (omega arith) ∙ get_or_default c.args.ops.now i x o c.loop-place-test.true in
     subst (λ x. g.R.Rewriting.is_about c.args.rewriting.now x ≡ true) (sym is) (c.requires.about i o c.loop-place-test.true)
 
 pub rewrite_op-requires-clause-home : goal.rewrite_op-requires-clause-home
 rewrite_op-requires-clause-home g c =
     let v = c.args.view.now in
     let i = c.loop-place.place in
-    let o = c.index-ops-place.result in
-    let is : o ≡ get_or c.args.ops.now i o = c.index-ops-place.is ∙ c.loop-place.invariant.rest i o (omega arith) in
+    let x = c.index-ops-place.result in
+    let o = get_or c.loop-place.ops i x in
+    let is : o ≡ get_or c.args.ops.now i o = c.loop-place.invariant.rest i x (omega arith) ∙ get_or_default c.args.ops.now i x o c.loop-place-test.true in
     subst (DefinesAtHome v.places.now.places.items v.block) (sym is) (c.requires.home i o c.loop-place-test.true)
 
 pub loop-place-preserved : goal.loop-place-preserved
@@ -32,13 +34,14 @@ loop-place-preserved g c =
     let i = c.loop-place.place in
     let ops = c.args.ops.now in
     let now = c.loop-place.ops in
-    let o = c.index-ops-place.result in
+    let x = c.index-ops-place.result in
+    let o = get_or now i x in
     let made = c.rewrite_op.new.op in
     let row = seen_by v c.loop-place.row in
     let inv = c.loop-place.invariant in
     let lt = c.loop-place-test.true in
     let low : i < length now = let long = c.loop-place.auto.ops in omega (arith, lt, long) in
-    let is : o ≡ get_or ops i o = c.index-ops-place.is ∙ inv.rest i o (omega arith) in
+    let is : o ≡ get_or ops i o = inv.rest i x (omega arith) ∙ get_or_default ops i x o lt in
     let about : g.R.Rewriting.is_about r o ≡ true = subst (λ x. g.R.Rewriting.is_about r x ≡ true) (sym is) (c.requires.about i o lt) in
     let before = seen_by v c.args.row.now in
     let seen = c.in_ok-rewrite_op.ensures.behind in
