@@ -18,7 +18,7 @@ pub fn both(a: u32, b: u32) -> u32
     a | b
 }
 
-/// Whether a register is in a set.
+/// Whether register `r` (0 to 31) is in a set: bit `r` of the word.
 pub fn has_register(mask: u32, r: u8) -> bool
     requires { r < 32 }
     ensures { result ≡ in_mask mask r }

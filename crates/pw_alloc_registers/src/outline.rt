@@ -5,8 +5,9 @@ ghost use Rattle.pw_webflow.specs.WebOutline.{web_act, web_stretch, web_outline}
 
 use pw_items::Items;
 use pw_live_fronts::{Act, Outline, Stretch};
-use pw_live_outline::{act_of, end_uses, numbers, successors};
+use pw_live_outline::{act_of, end_uses, few, successors};
 use pw_webflow::{WebBlock, WebFn, WebOp};
+use smallvec::SmallVec;
 use std::alloc::{AllocError as NoMemory, Global};
 
 /// What an operation reads and writes, and whether it calls.
@@ -15,8 +16,8 @@ fn act(alloc: Global, op: &WebOp) -> Result<Act, NoMemory>
 {
     match op {
         WebOp::Flow(op) => act_of(alloc, op),
-        WebOp::Read(t, _) => Ok(Act::new(Some(*t), Items::new(alloc), false)),
-        WebOp::Write(_, a) => Ok(Act::new(None, numbers(alloc, &[*a])?, false)),
+        WebOp::Read(t, _) => Ok(Act::new(Some(*t), SmallVec::new(alloc), false)),
+        WebOp::Write(_, a) => Ok(Act::new(None, few(alloc, &[*a])?, false)),
     }
 }
 

@@ -64,7 +64,8 @@ fn definitions(
     Ok(rows)
 }
 
-/// The facts of a function.
+/// What allocation has to know of a function: at which points each temporary is live, and the points directly behind
+/// its definitions. Fails only for want of memory.
 pub fn find_facts(alloc: Global, f: &Outline) -> Result<Facts, NoMemory>
     requires { IsOutline f.now }
     ensures { IfOk result (AreFacts f.now) }

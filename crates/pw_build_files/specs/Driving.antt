@@ -6,8 +6,9 @@ use Rattle.pw_io.specs.Files.{Files, Told}
 use Rattle.pw_value.specs.declared.fault.LinkFault.TheVariants as link
 use Rattle.pw_front_end.specs.Fronts.{HoldsNoWant}
 use Rattle.pw_top_answer.specs.declared.answer.Answer.{Answer}
-use Rattle.pw_top_answer.specs.declared.answer.Answer.TheVariants.{Done, Refused, LinkRefused, WriteFault, StoreFault, NoMemory}
+use Rattle.pw_top_answer.specs.declared.answer.Answer.TheVariants.{Done, Refused, LinkRefused, StoreFault}
 use Rattle.pw_top_answer.specs.Effects.{Effect, answers_alone}
+use Rattle.pw_top_answer.specs.Outcomes.{IsPrintAnswer}
 use Rattle.pw_build_files.specs.FromBuild.BuildFault.{BuildFault}
 use Rattle.pw_build_files.specs.Building.{Outcome}
 use Rattle.pw_build_files.specs.Seen.{SeenOutcome}
@@ -33,15 +34,17 @@ abbrev pub BuildEffect : Files → Opts → List ℕ → Effect → Type 0
 BuildEffect files opts input effect =
     (comes : Result Outcome BuildFault) × SeenOutcome files opts comes × (effect ≡ built_effect comes input)
 
--- the answers of the command, whose refusals are none for want of memory
+-- The answers of a command that builds before it does anything else: why its build came to no program, where no refusal is one for
+-- want of memory, or what it may answer then.
+abbrev pub IsBuiltAnswer : (Answer → Type 0) → Answer → Type 0
+IsBuiltAnswer IsThen (Refused name refusal) = HoldsNoWant refusal
+IsBuiltAnswer IsThen (LinkRefused fault) = fault ≢ link.NoMemory
+IsBuiltAnswer IsThen StoreFault = Unit {0}
+IsBuiltAnswer IsThen answer = IsThen answer
+
+-- those of the command `build`, which prints a report then
 abbrev pub IsBuildAnswer : Answer → Type 0
-IsBuildAnswer Done = Unit {0}
-IsBuildAnswer (Refused name refusal) = HoldsNoWant refusal
-IsBuildAnswer (LinkRefused fault) = fault ≢ link.NoMemory
-IsBuildAnswer WriteFault = Unit {0}
-IsBuildAnswer StoreFault = Unit {0}
-IsBuildAnswer NoMemory = Unit {0}
-IsBuildAnswer _ = ⊥
+IsBuildAnswer = IsBuiltAnswer IsPrintAnswer
 
 -- ---- what it leaves alone
 

@@ -31,7 +31,8 @@ fn lines_of(
     format!(in alloc; "built {rebuilt} of {modules}\nimage {size} {digits}\n")
 }
 
-/// The two lines of a report.
+/// A report as text, in two lines: `built N of M`, how many of how many modules were compiled anew, and
+/// `image SIZE DIGEST`, the bytes of the image and its SHA-256 in 64 lowercase digits.
 pub fn report_lines(alloc: Global, report: &Report) -> Result<String, AllocError>
     ensures { IfOk result (λ text. string_bytes text ≡ report_text report.now) }
 {

@@ -106,7 +106,7 @@ module _ (flows : List FlowModule) (colours : ℕ) (database : DirectivesList) (
   made_anew flow ds o true is = is.1
   made_anew flow ds o false is = let e : None ≡ Some o = is.0 in absurd cc
 
-  object_in : (flow : FlowModule) (o : Object) (fresh : Bool) → IsModuleFrom database flow None o fresh → IsObjectIn flows flow o
+  pub object_in : (flow : FlowModule) (o : Object) (fresh : Bool) → IsModuleFrom database flow None o fresh → IsObjectIn flows flow o
   object_in flow o fresh is = record {
     directives = is.directives;
     of_module = is.in_database.of_module;

@@ -8,3 +8,4 @@ pub mod FormLaws
 pub mod PreparedParts
 pub mod RoomLaws
 pub mod WereMade
+pub mod ShownLaws

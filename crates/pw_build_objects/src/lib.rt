@@ -8,6 +8,7 @@ pub mod laws;
 mod making;
 mod objects;
 mod remade;
+mod shown;
 mod steps;
 
 pub use making::{Built, complete};

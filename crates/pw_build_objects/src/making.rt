@@ -16,15 +16,17 @@ ghost use Rattle.pw_build_objects.specs.Counting.{CountsAnew, CountsUpTo};
 ghost use Rattle.pw_db.specs.Limits.{colour_limit};
 
 use crate::forms::prepare;
-use crate::laws::{forms_keep_what_modules_have, objects_are_refused_for_room_alone};
+use crate::laws::forms_keep_what_modules_have;
 use crate::objects::all_objects;
 use crate::remade::Made;
+use crate::shown::show_no_more;
 use crate::steps::Steps;
 use pw_build_opts::Opts;
 use pw_db::Database;
 use pw_flow::FlowModule;
 use pw_image::Image;
 use pw_law_link::laws::linked_images_are_lawful;
+use pw_law_shown::objects_show_their_modules;
 use pw_link::{link_checked, link_each};
 use pw_object::Object;
 use pw_value::LinkFault;
@@ -52,43 +54,37 @@ fn objects_in(alloc: Global, made: &[Made]) -> Result<Vec<&Object>, AllocError>
     Ok(objects)
 }
 
-/// Whether all objects were made anew, so that none that was kept is linked.
-fn are_new(made: &[Made]) -> bool
-    ensures { IsTrue result → AllByRecursion IsTrue (marks_of made.now) }
-{
-    for one in made {
-        if !one.fresh {
-            return false;
-        }
-    }
-    true
-}
-
-/// The image of the objects of modules, which keep the rules of linking where all of them were made anew: they are looked at
-/// only where one was kept.
-fn image_of(alloc: Global, made: &[Made], stack: u32) -> Result<Image, LinkFault>
-    requires { AllByRecursion IsTrue (marks_of made.now) → Links (map interface (objects_of made.now)) }
+/// The image of the objects of modules. They are known to keep the rules of linking where they show no more than their modules
+/// do; else the rules are looked at.
+fn image_of(
+    alloc: Global,
+    made: &[Made],
+    show_no_more: bool,
+    stack: u32,
+) -> Result<Image, LinkFault>
+    requires { IsTrue show_no_more → Links (map interface (objects_of made.now)) }
     ensures image { IfOk result (λ image. image ≡ linked (objects_of made.now) stack) }
     ensures accepted { OnOk result (AreLinked (objects_of made.now) stack) }
     ensures refused { IfErr result (λ fault. (fault ≡ LinkFault.NoMemory) ⊎ IsRefusal (objects_of made.now) stack fault) }
 {
     let objects = objects_in(alloc, made)?;
-    if are_new(made) {
+    if show_no_more {
         link_checked(alloc, &objects, stack)
     } else {
         link_each(alloc, &objects, stack)
     }
 }
 
-/// Links the objects of a database.
+/// Links the objects of a database, which keep the rules of linking where they show no more than their modules do.
 fn linked(
     alloc: Global,
     database: Database,
     made: Vec<Made>,
+    show_no_more: bool,
     stack: u32,
 ) -> Result<Built, LinkFault>
     requires lawful { AllByRecursion IsObject (objects_of made.items) }
-    requires rules { AllByRecursion IsTrue (marks_of made.items) → Links (map interface (objects_of made.items)) }
+    requires rules { IsTrue show_no_more → Links (map interface (objects_of made.items)) }
     ensures built { IfOk result (λ built. (built.database.functions ≡ database.functions) × (built.made.items ≡ made.items)) }
     ensures image { IfOk result (λ built. built.image ≡ linked (objects_of made.items) stack) }
     ensures lawful { IfOk result (λ built. IsImage built.image) }
@@ -96,7 +92,7 @@ fn linked(
     ensures refused { IfErr result (λ fault. (fault ≡ LinkFault.NoMemory) ⊎ IsRefusal (objects_of made.items) stack fault) }
 {
     linked_images_are_lawful();
-    let image = image_of(alloc, &made, stack)?;
+    let image = image_of(alloc, &made, show_no_more, stack)?;
     Ok(Built {
         database,
         made,
@@ -131,9 +127,10 @@ pub fn complete<L: Ledger>(
     ensures bound { CountsUpTo (length flows.items) steps.old steps.new }
 {
     forms_keep_what_modules_have();
-    objects_are_refused_for_room_alone();
+    objects_show_their_modules();
     let prepared = prepare(alloc, flows, opts)?;
     let analysed = prepared.analysed;
+    let plain = show_no_more(alloc, &prepared.forms, &analysed.summaries, &kept);
     let made = all_objects(
         alloc,
         prepared.forms,
@@ -142,5 +139,5 @@ pub fn complete<L: Ledger>(
         &analysed.database,
         steps,
     )?;
-    linked(alloc, analysed.database, made, opts.stack)
+    linked(alloc, analysed.database, made, plain, opts.stack)
 }

@@ -32,7 +32,7 @@ pub(crate) struct Behind {
     pub(crate) otherwise: Option<Box<TStmt>>,
 }
 
-/// A statement in a box.
+/// Checks a statement (C90 6.6), and answers its typed tree, in a box.
 pub fn boxed_stmt<'a, P: BodyParts<'a>>(
     alloc: Global,
     parts: &P,

@@ -24,7 +24,8 @@ pub enum Turn<'a> {
     Goes(Frame, &'a TExpr),
 }
 
-/// What an expression is as a constant.
+/// Whether a typed expression is an integral constant expression (C90 6.4), and the word of its value where it is one
+/// that has a value. Fails only for want of memory.
 #[cycle(constants)]
 #[tactic(auto, using(crate::proofs::FrameLemmas::unwound_push))]
 pub fn constant_of(alloc: Global, e: &TExpr) -> Result<Constancy, AllocError>

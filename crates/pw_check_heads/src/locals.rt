@@ -53,7 +53,8 @@ fn parameter_local(alloc: Global, parameter: &Parameter<'_>) -> Result<Local, Al
     })
 }
 
-/// The parameters as locals.
+/// The parameters of a function's definition as its first locals, in order, each with its name and type; those of a
+/// const type may not be written (C90 6.7.1).
 pub fn parameter_locals(
     alloc: Global,
     parameters: &[Parameter<'_>],
@@ -78,7 +79,7 @@ fn copy_local(alloc: Global, local: &Local) -> Result<Local, AllocError>
     })
 }
 
-/// Copies of locals.
+/// Copies of locals, in order, with their names and types. Fails only for want of memory.
 pub fn copy_locals(alloc: Global, locals: &[Local]) -> Result<Vec<Local>, AllocError>
     ensures { IfOk result (λ copies. typed.view_locals copies.items ≡ typed.view_locals locals.now) }
 {

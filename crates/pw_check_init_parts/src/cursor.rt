@@ -11,7 +11,7 @@ use pw_check_types::is_scalar;
 use pw_types::Types;
 use std::alloc::{AllocError, Global};
 
-/// The innermost object.
+/// The innermost of the objects that are being initialised (C90 6.5.7), or None where there is none.
 #[tactic(auto, using(crate::proofs::CursorLemmas::innermost_last))]
 pub fn innermost(cursor: &[Frame]) -> Option<&Frame>
     ensures { option_map view_frame (option_copied result) ≡ slice_get (view_cursor cursor.now) 0 }

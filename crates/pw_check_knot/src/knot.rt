@@ -72,7 +72,8 @@ impl<
     }
 }
 
-/// An expression.
+/// Checks an expression (C90 6.3), and answers its typed tree with what is known of it as an operand. A tree nested
+/// deeper than `depth` is want of memory.
 #[cycle(phrases)]
 pub fn check_expr<'a>(
     alloc: Global,
@@ -117,7 +118,8 @@ pub fn check_specifiers<'a>(
     specifiers_of(alloc, &smaller, state, specifiers, first)
 }
 
-/// A declarator.
+/// Checks a declarator (C90 6.5.4), and answers its name and the steps from the specifiers' type to the declared one.
+/// One nested deeper than `depth` is want of memory.
 #[cycle(phrases)]
 pub fn check_declarator<'a>(
     alloc: Global,

@@ -9,7 +9,8 @@ use pw_check_names::NameList;
 use pw_tree::{Block, ElseIf, Label, Stmt, statements_show_their_lists};
 use std::alloc::{AllocError, Global};
 
-/// The names of the labels in a block.
+/// The names of the labels (C90 6.6.1) in a block and in all statements within it, in the order of the text; `case`
+/// and `default` have none. Fails only for want of memory.
 pub fn labels_in_block<'a>(alloc: Global, block: &'a Block) -> Result<NameList<'a>, AllocError>
     ensures { IfOk result (λ names. names ≡ spec.labels_in_block (view_block block.now)) }
 {

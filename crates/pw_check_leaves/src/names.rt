@@ -21,7 +21,7 @@ use pw_tree::Word;
 use pw_types::{CType, IntKind, QType};
 use std::alloc::{AllocError, Global};
 
-/// The type `int`.
+/// The type `int`, without qualifiers.
 #[tactic(auto, unfolding(pw_types::specs::Views::view_type))]
 pub fn int_type() -> QType
     ensures { view_qtype result ≡ kinds.int_type }

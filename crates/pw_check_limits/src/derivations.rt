@@ -76,7 +76,8 @@ pub fn step_point(types: &Types, spot: &Spot, step: &Derivation, q: &QType) -> F
     }
 }
 
-/// What one step makes of a type.
+/// The type that one step of a declarator makes of a type (C90 6.5.4): a pointer to it, with the qualifiers behind
+/// the `*`; an array of it, of so many elements; or a function that returns it.
 #[tactic(auto, unfolding(pw_types::specs::Views::view_type), using(pw_types::proofs::ViewLemmas::signature_view))]
 pub fn step_type(alloc: Global, step: Derivation, q: QType) -> Result<QType, AllocError>
     ensures { IfOk result (λ made. view_qtype made ≡ spec.step_type (view_derivation step.entry) (view_qtype q)) }

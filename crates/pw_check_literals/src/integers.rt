@@ -17,7 +17,8 @@ pub struct IntegerConstant {
 /// The least number that no type holds.
 const TOO_WIDE: u64 = 1 << 32;
 
-/// What a digit is worth.
+/// The value of a digit's byte, 0 to 15: `a` to `f` and `A` to `F` are 10 to 15. A byte that is no digit gets a value
+/// that means nothing.
 pub fn digit_value(c: u8) -> u8
     ensures { result ≡ spec.digit_value c }
 {

@@ -60,7 +60,7 @@ impl CaseList {
         self.labels.get(&value).is_some()
     }
 
-    /// The cases in order.
+    /// The cases in the order of the text, as a `Vec`.
     pub fn into_cases(self) -> Vec<Case>
         ensures { view_cases result.items ≡ self }
     {

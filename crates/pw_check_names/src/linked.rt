@@ -66,7 +66,8 @@ impl<'a> LinkedNames<'a> {
         Ok(())
     }
 
-    /// The type of a name is this from here on.
+    /// Gives the name at a place another type, as a later declaration makes it (C90 6.1.2.6). A place past the end
+    /// changes nothing.
     #[tactic(auto, using(crate::proofs::ChangeLemmas::map_same, crate::proofs::ChangeLemmas::map_changed, crate::proofs::ChangeLemmas::map_past))]
     pub fn set_type(&mut self, place: u32, ty: QType)
         ensures { linked_names self.new ≡ changed_at place (λ l. record l { ty = view_qtype ty }) (linked_names self.old) }
@@ -86,7 +87,7 @@ impl<'a> LinkedNames<'a> {
         }
     }
 
-    /// A name is defined.
+    /// Notes that the name at a place has its definition (C90 6.7). A place past the end changes nothing.
     #[tactic(auto, using(crate::proofs::ChangeLemmas::map_same, crate::proofs::ChangeLemmas::map_changed, crate::proofs::ChangeLemmas::map_past))]
     pub fn set_defined(&mut self, place: u32)
         ensures { linked_names self.new ≡ changed_at place (λ l. record l { defined = true }) (linked_names self.old) }

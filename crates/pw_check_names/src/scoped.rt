@@ -66,7 +66,8 @@ impl<'a> VisibleNames<'a> {
         self.ordinary.visible(name)
     }
 
-    /// What a tag stands for.
+    /// What a tag stands for at this place of the text, with the depth of the scope that declares it (C90 6.1.2.1),
+    /// or None where no declaration of it is visible.
     pub fn visible_tag(&self, name: &[u8]) -> Option<TagEntry>
         ensures { result ≡ visible self.now.tags name.now }
     {
@@ -89,7 +90,7 @@ impl<'a> VisibleNames<'a> {
         self.tags.declare(name, TagEntry { tag, depth })
     }
 
-    /// Enters a scope.
+    /// Enters a scope, within those that are around. A depth past 32 bits is want of memory.
     pub fn enter(&mut self) -> Result<(), AllocError>
         ensures { OnOk result (self.new ≡ deeper self.old) }
     {

@@ -145,7 +145,8 @@ fn static_rest<'a, P: Phrases<'a>>(
     Ok(Vec::new(alloc))
 }
 
-/// A static local.
+/// Checks a local that is declared `static` (C90 6.1.2.4, 6.5.7): it becomes an object of the module, with its
+/// initial bytes, and nothing is left to be done where the block begins, so that no initialiser is answered.
 pub fn static_rule<'a, P: Phrases<'a>>(
     alloc: Global,
     phrases: &P,

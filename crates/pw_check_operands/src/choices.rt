@@ -85,7 +85,8 @@ pub fn chosen_pointer(alloc: Global, a: &TExpr, b: &TExpr) -> Result<CType, Allo
     joined_pointer(alloc, &a.ty.ty, &b.ty.ty)
 }
 
-/// The type of what `?:` chooses.
+/// The type of the result of `?:` (C90 6.3.15): of two integers that of the usual conversions, of pointers that to
+/// which both are converted, else the type of the first.
 #[tactic(auto, unfolding(pw_types::specs::Views::view_type))]
 pub fn choice_type(alloc: Global, a: &TExpr, b: &TExpr) -> Result<CType, AllocError>
     ensures { IfOk result (λ ty. view_type ty ≡ spec.choice_type (view_expr a.now) (view_expr b.now)) }

@@ -159,7 +159,8 @@ pub fn compound_rule(
     Ok(value(node))
 }
 
-/// An assignment.
+/// Checks an assignment, plain or compound (C90 6.3.16): its constraints, with the fault at the operator's token, and
+/// its node, whose type is that of the left operand.
 #[tactic(auto, unfolding(pw_check_rules::specs::Operators::assignment_rule))]
 pub fn assignment_rule(
     alloc: Global,

@@ -162,7 +162,8 @@ pub fn difference_node(
     boxed(alloc, token, plain(CType::Int(IntKind::Int)), form)
 }
 
-/// The node of a binary operator.
+/// The node of a binary operator over two operands (C90 6.3.5 to 6.3.12), which are converted as the operator wants:
+/// to a common type, promoted, or with a count scaled by the pointer's element.
 pub fn binary_node(
     alloc: Global,
     token: usize,

@@ -68,7 +68,8 @@ fn enumerators<'a, P: Phrases<'a>>(
     Ok(())
 }
 
-/// An enumeration with its enumerators.
+/// Checks an enumeration with its list (C90 6.5.2.2): its tag, where it has one, is declared, and each enumerator is
+/// a constant of type `int`, the first 0 and each other one more, but where a value is given.
 pub fn enumeration_list<'a, P: Phrases<'a>>(
     alloc: Global,
     phrases: &P,

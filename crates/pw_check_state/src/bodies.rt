@@ -83,7 +83,7 @@ impl<'a> State<'a> {
         Ok(word_of(self.body.locals.len())?)
     }
 
-    /// A local more.
+    /// Puts a local behind the others of the function that is read.
     pub fn add_local(&mut self, local: Local) -> Result<(), AllocError>
         ensures { OnOk result (view_state self.new ≡ spec.add_local (view_local local) (view_state self.old)) }
     {
@@ -91,7 +91,7 @@ impl<'a> State<'a> {
         Ok(())
     }
 
-    /// A local is this from here on.
+    /// Replaces the local at a place. A place past the end changes nothing.
     pub fn put_local(&mut self, place: u32, local: Local)
         ensures { view_state self.new ≡ put_local place (view_local local) (view_state self.old) }
     {
@@ -137,7 +137,7 @@ impl<'a> State<'a> {
         self.body.met.contains(name)
     }
 
-    /// A label is met.
+    /// Notes that a label's statement is met (C90 6.6.1), so that a second one of its name is refused.
     pub fn note_label(&mut self, name: &'a [u8]) -> Result<(), AllocError>
         ensures { OnOk result (view_state self.new ≡ changes.with_met name.now (view_state self.old)) }
     {
@@ -145,7 +145,8 @@ impl<'a> State<'a> {
         Ok(())
     }
 
-    /// The innermost switch around.
+    /// What is known of the innermost switch around (C90 6.6.4.2), its type and its cases so far, or None outside
+    /// every switch.
     #[tactic(auto, unfolding(crate::specs::StateViews::view_state), using(crate::proofs::SwitchLemmas::first_last))]
     pub fn innermost_switch(&self) -> Option<&SwitchState>
         ensures { option_map view_switch (option_copied result) ≡ statements.innermost_switch (view_state self.now) }
@@ -226,7 +227,7 @@ impl<'a> State<'a> {
         Ok(())
     }
 
-    /// Leaves a loop.
+    /// Leaves the innermost loop; outside every loop nothing changes.
     pub fn leave_loop(&mut self)
         ensures { view_state self.new ≡ changes.behind_loop (view_state self.old) }
     {

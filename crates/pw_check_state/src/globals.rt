@@ -153,7 +153,8 @@ impl<'a> State<'a> {
         Ok(())
     }
 
-    /// A hidden object is this from here on.
+    /// Replaces the hidden object of a number: a string's, or a static local's. A number past the end changes
+    /// nothing.
     pub fn put_hidden(&mut self, number: u32, object: HiddenObject)
         ensures { view_state self.new ≡ spec.put_hidden number (view_hidden object) (view_state self.old) }
     {
@@ -168,7 +169,7 @@ impl<'a> State<'a> {
         Ok(())
     }
 
-    /// A function more.
+    /// Puts a checked function behind those of the module so far.
     pub fn add_function(&mut self, function: TFunction) -> Result<(), AllocError>
         ensures { OnOk result (view_state self.new ≡ add_function (view_function function) (view_state self.old)) }
     {

@@ -69,7 +69,8 @@ impl<'a> State<'a> {
         self.entity_at(entry.place)
     }
 
-    /// What a tag names.
+    /// The structure, union or enumeration that a tag names at this place of the text (C90 6.5.2.3), or None where no
+    /// declaration of it is visible.
     pub fn tag_of(&self, name: &[u8]) -> Option<Tag>
         ensures { result ≡ spec.tag_of (view_state self.now) name.now }
     {
@@ -99,7 +100,7 @@ impl<'a> State<'a> {
         Ok(())
     }
 
-    /// A tag names this from here on.
+    /// Declares a tag in the scope that is read: it names this up to the scope's end (C90 6.1.2.1).
     pub fn enter_tag(&mut self, name: &'a [u8], tag: Tag) -> Result<(), AllocError>
         ensures { OnOk result (view_state self.new ≡ spec.enter_tag name.now tag (view_state self.old)) }
     {

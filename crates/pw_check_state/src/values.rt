@@ -15,7 +15,7 @@ use pw_typed::{TExpr, TForm};
 use pw_types::{CType, QType};
 use std::alloc::{AllocError, Global};
 
-/// A node in a box.
+/// The node of a form with its type, at the number of its token, in a box. Fails only for want of memory.
 #[tactic(auto, unfolding(pw_typed::specs::Views::view_form, pw_types::specs::Views::view_type))]
 pub fn boxed(alloc: Global, token: usize, ty: QType, form: TForm) -> Result<Box<TExpr>, AllocError>
     ensures { IfOk result (λ e. e.value ≡ record { token = token; ty = ty; form = form }) }

@@ -8,7 +8,7 @@ use crate::kinds::plain;
 use pw_types::{CType, QType, Signature};
 use std::alloc::{AllocError, Global};
 
-/// A copy of a type.
+/// A copy of a type with all that it is made of; a structure or union is a number. Fails only for want of memory.
 #[cycle(copies)]
 #[tactic(auto, unfolding(pw_types::specs::Views::view_type), using(pw_types::proofs::ViewLemmas::signature_view))]
 pub fn copy_type(alloc: Global, ty: &CType) -> Result<CType, AllocError>
@@ -37,7 +37,7 @@ pub fn copy_qtype(alloc: Global, q: &QType) -> Result<QType, AllocError>
     })
 }
 
-/// A copy in a box.
+/// A copy of a qualified type, in a box. Fails only for want of memory.
 #[cycle(copies)]
 pub fn boxed_copy(alloc: Global, q: &QType) -> Result<Box<QType>, AllocError>
     ensures { IfOk result (λ copy. view_qtype copy.value ≡ view_qtype q.now) }

@@ -99,7 +99,7 @@ pub fn is_character_kind(kind: IntKind) -> bool
     }
 }
 
-/// Whether a type is an array of characters.
+/// Whether a type is an array of `char`, `signed char` or `unsigned char`, which a string may initialise (C90 6.5.7).
 #[tactic(auto, unfolding(pw_types::specs::Views::view_type), using(pw_types::proofs::ViewLemmas::signature_view))]
 pub fn is_character_array(ty: &CType) -> bool
     ensures { result ≡ spec.is_character_array (view_type ty.now) }

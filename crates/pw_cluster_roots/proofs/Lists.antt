@@ -1,7 +1,7 @@
 -- What holds of the first elements of a list, one by one.
-use Rattle.std.specs.Prelude.{ℕ, zero, suc, ◌≡◌, ◌<◌, ◌≤◌, ◌+◌, List, [], ◌∷◌, ◌++◌, length, replicate, slice_index_or, Contains}
+use Rattle.std.specs.Prelude.{ℕ, zero, suc, ◌≡◌, ◌<◌, ◌≤◌, ◌+◌, List, [], ◌∷◌, ◌++◌, length, slice_index_or, Contains}
 use Rattle.std.specs.List.{range_with_len}
-use Rattle.std.proofs.Common.{arith, refl, sym, ap, subst, ◌∙◌, take, get_or, inl, inr}
+use Rattle.std.proofs.Common.{arith, sym, ap, subst, ◌∙◌, take, get_or, inl, inr}
 use Rattle.std.proofs.Math.Seq.{take-append_seam}
 use Rattle.std.proofs.lemmas.List.Elements.{Contains-push_cases, Contains-get_or}
 use Rattle.std.proofs.lemmas.List.{take_all}
@@ -32,14 +32,6 @@ range_last a (suc n) =
 
 pub range_more : (a n : ℕ) → range_with_len a n ++ (a + n) ∷ [] ≡ range_with_len a (n + 1)
 range_more a n = let up : suc n ≡ n + 1 = omega arith in sym (range_last a n) ∙ ap (range_with_len a) up
-
-pub same_more : {X : Type 0} (x : X) (n : ℕ) → replicate n x ++ x ∷ [] ≡ replicate (n + 1) x
-same_more x zero = subst (λ (m : ℕ). x ∷ [] ≡ replicate m x) (one_up zero) refl where
-  one_up : (k : ℕ) → suc k ≡ k + 1
-  one_up k = omega arith
-same_more {X} x (suc n) = subst (λ (m : ℕ). replicate (suc n) x ++ x ∷ [] ≡ replicate m x) (one_up n) (ap (λ (xs : List X). x ∷ xs) (same_more x n)) where
-  one_up : (k : ℕ) → suc (k + 1) ≡ suc k + 1
-  one_up k = omega arith
 
 -- the functions of a row are some of the graph's
 pub row_below : (row : List ℕ) (n : ℕ) → ((c : ℕ) → Contains row c → c < n) → (k d : ℕ) → k < length row → slice_index_or row k d < n

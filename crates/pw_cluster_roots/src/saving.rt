@@ -26,11 +26,8 @@ fn raise(most: &mut [u8], place: usize, root: usize, need: u8)
 fn zeros(alloc: Global, count: usize) -> Result<Vec<u8>, NoMemory>
     ensures { IfOk result (λ v. v.items ≡ replicate count 0) }
 {
-    let mut items = Vec::with_capacity(alloc, count)?;
-    for _ in 0..count {
-        items.push(0)?;
-    }
-    Ok(items)
+    let zeros = vec![in alloc; 0; count]?;
+    Ok(zeros)
 }
 
 /// Of each place the greatest need among the members of its cluster.

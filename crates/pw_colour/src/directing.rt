@@ -1,7 +1,7 @@
 //! The database of webs that have registers, and of the registers that roots save.
 
-ghost use Rattle.std.specs.Prelude.{◌≡◌, ◌<◌, ◌^◌, ℕ, List, if◌then◌else◌, length, map, All, IfOk};
-ghost use Rattle.pw_db.specs.Database.{database_version, says_something as tells};
+ghost use Rattle.std.specs.Prelude.{◌≡◌, ◌<◌, ◌^◌, if◌then◌else◌, length, map, All, IfOk};
+ghost use Rattle.pw_db.specs.Database.{database_version};
 ghost use Rattle.pw_db.specs.declared.database.Role.TheVariants.{Entry, Member};
 ghost use Rattle.pw_colour.specs.Colours.{numbered as numbered_from, web_of as web_at, has_number, webs_of as webs_at, directives_of as directives_at};
 ghost use Rattle.pw_colour.specs.Giving.{coloured as seen, paired, entries_from, AreClusters};
@@ -120,13 +120,6 @@ fn directives_of(
     })
 }
 
-/// Whether directives hold a web, a register that is free to use, or one to save for others.
-fn say_something(directives: &Directives) -> bool
-    ensures { (f : List ℕ) → result ≡ tells (f, directives.now) }
-{
-    !directives.webs.is_empty() || (!directives.free.is_empty() || !directives.saves.is_empty())
-}
-
 /// The functions whose directives say something, each with these.
 pub(crate) fn database(
     alloc: Global,
@@ -143,7 +136,7 @@ pub(crate) fn database(
     let mut entries = Items::new(alloc);
     for place in 0..functions.len() {
         let directives = directives_of(alloc, graph, coloured, clusters, place)?;
-        if say_something(&directives) {
+        if directives.say_something() {
             entries.push((functions[place].copy(alloc)?, directives))?;
         }
     }

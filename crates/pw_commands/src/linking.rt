@@ -24,7 +24,7 @@ use pw_top_answer::Answer;
 use pw_value::LinkFault;
 use std::alloc::Global;
 
-/// Puts one file.
+/// Puts one file into the store, and answers `Done`, `StoreFault` where the store failed, or `NoMemory`.
 pub fn put_file<S: Store>(alloc: Global, store: &mut S, name: &str, bytes: &[u8]) -> Answer
     ensures put { IfSome (S.told store.old) (λ told. PutsFiles ((name.now, bytes.now) ∷ []) result told (S.told store.new)) }
     ensures answer { IsPutAnswer result }

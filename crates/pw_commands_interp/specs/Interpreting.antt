@@ -1,12 +1,10 @@
 -- What `interp` comes to: a build over the files of a store that puts nothing, and a run of its modules by the meaning of C over an
 -- input.
-use Rattle.std.specs.Prelude.{◌≡◌, ◌≢◌, ◌⊎◌, ℕ, Bool, if◌then◌else◌, IfSome, List, [], ◌∷◌, drop, map, Option, Some, None, Result, Ok, Err}
+use Rattle.std.specs.Prelude.{◌≡◌, ◌⊎◌, ℕ, Bool, if◌then◌else◌, IfSome, List, [], ◌∷◌, drop, map, Option, Some, None, Result, Ok, Err}
 use Rattle.std.specs.FinMap as finite
 use Rattle.std.specs.Str.{bytes_eq}
-use Rattle.pw_value.specs.declared.fault.LinkFault.TheVariants as link
 use Rattle.pw_io.specs.Files.{Files}
 use Rattle.pw_token.specs.Places.{line_at}
-use Rattle.pw_front_end.specs.Fronts.{HoldsNoWant}
 use Rattle.pw_front_end.specs.Places.{token_place}
 use Rattle.pw_build_files.specs.FromBuild.FirstPhase.{typed_text}
 use Rattle.pw_cmean.specs.Worlds.{Program, ProgramModule}
@@ -24,7 +22,7 @@ use Rattle.pw_store_modules.specs.Modules.{Source, module_map, modules_of}
 use Rattle.pw_store_texts.specs.Names.{source_name}
 use Rattle.pw_store_texts.specs.Seen.{IsSeen}
 use Rattle.pw_top_answer.specs.declared.answer.Answer.{Answer}
-use Rattle.pw_top_answer.specs.declared.answer.Answer.TheVariants.{Ended, Refused, LinkRefused, StackStop, Spent, ReadFault, WriteFault, StoreFault, NoMemory, Undefined, UndefinedSource}
+use Rattle.pw_top_answer.specs.declared.answer.Answer.TheVariants.{Ended, StackStop, Spent, ReadFault, WriteFault, NoMemory, Undefined, UndefinedSource}
 use Rattle.pw_top_answer.specs.Effects.{Effect, answers_alone}
 use Rattle.pw_top_answer.specs.Outcomes.{Answers, LeavesInput, PutsOut}
 use Rattle.pw_commands.specs.Outcome.{IsFound}
@@ -33,6 +31,7 @@ use Rattle.pw_build_files.specs.FromBuild.BuildFault.{BuildFault}
 use Rattle.pw_build_files.specs.FromBuild.Builds.{Builds, FullBuild}
 use Rattle.pw_build_files.specs.FromBuild.Phases.{refused_line}
 use Rattle.pw_build_files.specs.Building.{kept_objects}
+use Rattle.pw_build_files.specs.Driving.{IsBuiltAnswer}
 use Rattle.pw_build_files.specs.Outcomes.{fault_answer}
 use Rattle.pw_build_opts.specs.declared.opts.RunOpts.{RunOpts}
 use Rattle.pw_top_answer.specs.declared.answer.Reply.{Reply}
@@ -123,22 +122,7 @@ ToldAny answer told = told ≡ answer
 
 -- ---- what is answered
 
--- the answers of the command, whose refusals are none for want of memory
-abbrev pub IsInterpAnswer : Answer → Type 0
-IsInterpAnswer (Ended status) = Unit {0}
-IsInterpAnswer (Refused name refusal) = HoldsNoWant refusal
-IsInterpAnswer (LinkRefused fault) = fault ≢ link.NoMemory
-IsInterpAnswer StackStop = Unit {0}
-IsInterpAnswer Spent = Unit {0}
-IsInterpAnswer ReadFault = Unit {0}
-IsInterpAnswer WriteFault = Unit {0}
-IsInterpAnswer StoreFault = Unit {0}
-IsInterpAnswer NoMemory = Unit {0}
-IsInterpAnswer (Undefined operation name token) = Unit {0}
-IsInterpAnswer (UndefinedSource operation name token) = Unit {0}
-IsInterpAnswer _ = ⊥
-
--- those of a run
+-- the answers to a run
 abbrev pub IsRunAnswer : Answer → Type 0
 IsRunAnswer (Ended status) = Unit {0}
 IsRunAnswer StackStop = Unit {0}
@@ -148,6 +132,15 @@ IsRunAnswer WriteFault = Unit {0}
 IsRunAnswer NoMemory = Unit {0}
 IsRunAnswer (Undefined operation name token) = Unit {0}
 IsRunAnswer _ = ⊥
+
+-- the same, where an operation without a meaning may be told of a C source
+abbrev pub IsToldRun : Answer → Type 0
+IsToldRun (UndefinedSource operation name token) = Unit {0}
+IsToldRun answer = IsRunAnswer answer
+
+-- the answers of the command, which runs its modules then
+abbrev pub IsInterpAnswer : Answer → Type 0
+IsInterpAnswer = IsBuiltAnswer IsToldRun
 
 -- why a run was given up, as the answer
 abbrev pub given_up : InterpFault → Answer

@@ -27,8 +27,8 @@ use Rattle.pw_commands.specs.MachineRun.{run_answer, run_rest, stop_answer}
 use Rattle.pw_commands.specs.Outcome.{IsFound}
 use Rattle.pw_commands.proofs.RunLemmas.{Ends, run_ends}
 use Rattle.pw_build_files.specs.Outcomes.{HoldsImage}
-use Rattle.pw_commands_where.specs.Showing.{FileEffect, LookEffect, loses, passes, shows}
-use Rattle.pw_commands_where.specs.Steps.{IsLookAnswer, LooksAtFile, PutsLook, TellsLook}
+use Rattle.pw_commands_where.specs.Showing.{FileEffect, IsLookAnswer, LookEffect, loses, passes, shows}
+use Rattle.pw_commands_where.specs.Steps.{LooksAtFile, PutsLook, TellsLook}
 
 -- the laws on which it stands
 pub record Laws : Type 0 where

@@ -27,8 +27,8 @@ use Rattle.pw_build_files.specs.Seen.{IsSeenLine, SeenOutcome}
 use Rattle.pw_build_files.specs.Outcomes.{AnswersFault, AnswersOutcome, FaultFound, IsNoWant, ObeysBuild, fault_answer}
 use Rattle.pw_build_files.proofs.DrivingLemmas.{no_memory_out, refused_outcome}
 use Rattle.pw_go.specs.Going.{HasBuilt, IfMade}
-use Rattle.pw_commands_where.specs.Showing.{FileEffect, IsWhereAnswer, LookEffect, WhereEffect, WhereOver, loses, passes, shows}
-use Rattle.pw_commands_where.specs.Steps.{IsLookAnswer, LooksAtFile}
+use Rattle.pw_commands_where.specs.Showing.{FileEffect, IsLookAnswer, IsWhereAnswer, LookEffect, WhereEffect, WhereOver, loses, passes, shows}
+use Rattle.pw_commands_where.specs.Steps.{LooksAtFile}
 use Rattle.pw_commands_where.proofs.LookLemmas.{appends_none, look_ends}
 
 -- ---- the objects of a build

@@ -1,8 +1,6 @@
 -- What `where` comes to: a build over the files of a store, and a look at a call in the run of its image over an input.
-use Rattle.std.specs.Prelude.{◌≡◌, ◌≢◌, ℕ, List, [], Some, Result, Ok, Err}
-use Rattle.pw_value.specs.declared.fault.LinkFault.TheVariants as link
+use Rattle.std.specs.Prelude.{◌≡◌, ℕ, List, [], Some, Result, Ok, Err}
 use Rattle.pw_io.specs.Files.{Files}
-use Rattle.pw_front_end.specs.Fronts.{HoldsNoWant}
 use Rattle.pw_object.specs.declared.object.Object.{Object}
 use Rattle.pw_image.specs.declared.image.Image.{Image}
 use Rattle.pw_image.specs.Image.{Contents, IsImageFile}
@@ -12,11 +10,12 @@ use Rattle.pw_debug_frames.specs.Frames.{AreFrames}
 use Rattle.pw_where.specs.Calls.{Passes}
 use Rattle.pw_where.specs.Looks.{ShowsAt, entries_in, start_over}
 use Rattle.pw_top_answer.specs.declared.answer.Answer.{Answer}
-use Rattle.pw_top_answer.specs.declared.answer.Answer.TheVariants.{Done, Usage, Refused, RefusedSource, Cpp, LinkRefused, BadFile, BadScript, NoFrames, Undefined, UndefinedSource}
+use Rattle.pw_top_answer.specs.declared.answer.Answer.TheVariants.{Done, NoFrames}
 use Rattle.pw_top_answer.specs.Effects.{Effect, NamedFile, answers_alone}
-use Rattle.pw_commands.specs.MachineRun.{run_answer, run_rest}
+use Rattle.pw_commands.specs.MachineRun.{IsRunAnswer, run_answer, run_rest}
 use Rattle.pw_build_files.specs.FromBuild.BuildFault.{BuildFault}
 use Rattle.pw_build_files.specs.Building.{Outcome}
+use Rattle.pw_build_files.specs.Driving.{IsBuiltAnswer}
 use Rattle.pw_build_files.specs.Seen.{SeenOutcome}
 use Rattle.pw_build_files.specs.Outcomes.{fault_answer}
 use Rattle.pw_build_opts.specs.declared.opts.RunOpts.{RunOpts}
@@ -46,15 +45,12 @@ abbrev pub WhereEffect : Files → RunOpts → ℕ → List ℕ → Effect → T
 WhereEffect files opts k input effect =
     (comes : Result Outcome BuildFault) × SeenOutcome files opts.build comes × WhereOver opts.budget k input comes effect
 
--- the answers of the command, whose refusals are none for want of memory
+-- the answers to a look: its lines are put out, a walk is lost, or the run stopped before
+abbrev pub IsLookAnswer : Answer → Type 0
+IsLookAnswer Done = Unit {0}
+IsLookAnswer (NoFrames address) = Unit {0}
+IsLookAnswer answer = IsRunAnswer answer
+
+-- the answers of the command, which looks at the run of its image then
 abbrev pub IsWhereAnswer : Answer → Type 0
-IsWhereAnswer Usage = ⊥
-IsWhereAnswer (Refused name refusal) = HoldsNoWant refusal
-IsWhereAnswer (RefusedSource name refusal) = ⊥
-IsWhereAnswer (Cpp fault) = ⊥
-IsWhereAnswer (LinkRefused fault) = fault ≢ link.NoMemory
-IsWhereAnswer (BadFile name at) = ⊥
-IsWhereAnswer (BadScript at) = ⊥
-IsWhereAnswer (Undefined operation name token) = ⊥
-IsWhereAnswer (UndefinedSource operation name token) = ⊥
-IsWhereAnswer _ = Unit {0}
+IsWhereAnswer = IsBuiltAnswer IsLookAnswer

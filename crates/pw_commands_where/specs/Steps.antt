@@ -4,7 +4,7 @@ use Rattle.pw_object.specs.declared.object.Object.{Object}
 use Rattle.pw_where.specs.declared.looking.Look.{Look}
 use Rattle.pw_where.specs.declared.looking.Look.TheVariants.{Lines, LostAt, StoppedAs}
 use Rattle.pw_top_answer.specs.declared.answer.Answer.{Answer}
-use Rattle.pw_top_answer.specs.declared.answer.Answer.TheVariants.{Usage, Refused, RefusedSource, Cpp, LinkRefused, StoreFault, BadFile, BadScript, NoFrames, Undefined, UndefinedSource}
+use Rattle.pw_top_answer.specs.declared.answer.Answer.TheVariants.{NoFrames}
 use Rattle.pw_top_answer.specs.Effects.{Effect}
 use Rattle.pw_top_answer.specs.Outcomes.{Answers, IsPrintAnswer, LeavesInput, PutsOut}
 use Rattle.pw_commands.specs.MachineRun.{stop_answer}
@@ -21,20 +21,6 @@ TellsLook (StoppedAs stop) answer = answer ≡ stop_answer stop
 abbrev pub PutsLook : Look → Answer → (taken taken' : Option (List ℕ)) → Type 0
 PutsLook (Lines text) answer taken taken' = PutsOut text.items answer taken taken'
 PutsLook look answer taken taken' = taken' ≡ taken
-
--- the answers to a look
-abbrev pub IsLookAnswer : Answer → Type 0
-IsLookAnswer Usage = ⊥
-IsLookAnswer (Refused name refusal) = ⊥
-IsLookAnswer (RefusedSource name refusal) = ⊥
-IsLookAnswer (Cpp fault) = ⊥
-IsLookAnswer (LinkRefused fault) = ⊥
-IsLookAnswer StoreFault = ⊥
-IsLookAnswer (BadFile name at) = ⊥
-IsLookAnswer (BadScript at) = ⊥
-IsLookAnswer (Undefined operation home token) = ⊥
-IsLookAnswer (UndefinedSource operation home token) = ⊥
-IsLookAnswer _ = Unit {0}
 
 -- The look at the image in this file was answered and put out, and its rest of the input left.
 pub record LooksAtFile (bytes : List ℕ) (objects : List Object) (k budget : ℕ) (input : List ℕ) (answer : Answer) (input' taken taken' : Option (List ℕ)) : Type 0 where

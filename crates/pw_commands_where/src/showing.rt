@@ -13,8 +13,8 @@ ghost use Rattle.pw_build_files.specs.Genuine.{KeepsGenuine};
 ghost use Rattle.pw_build_files.specs.Outcomes.{AreOpts, HoldsImage};
 ghost use Rattle.pw_build_files.specs.Seen.{IsSeenLine};
 ghost use Rattle.pw_go.specs.Going.{HasBuilt};
-ghost use Rattle.pw_commands_where.specs.Showing.{IsWhereAnswer, WhereEffect};
-ghost use Rattle.pw_commands_where.specs.Steps.{IsLookAnswer, LooksAtFile, PutsLook, TellsLook};
+ghost use Rattle.pw_commands_where.specs.Showing.{IsLookAnswer, IsWhereAnswer, WhereEffect};
+ghost use Rattle.pw_commands_where.specs.Steps.{LooksAtFile, PutsLook, TellsLook};
 
 use pw_build_files::{answer_of, build_uncounted};
 use pw_build_opts::RunOpts;

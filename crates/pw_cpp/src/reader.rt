@@ -1,6 +1,6 @@
 //! What is read, and what came of it.
 
-ghost use Rattle.std.specs.Prelude.{◌≡◌, ◌≤◌, ◌<◌, take, drop, length, reverse, IfOk, []};
+ghost use Rattle.std.specs.Prelude.{◌≡◌, ◌≤◌, ◌<◌, take, length, reverse, IfOk, []};
 ghost use Rattle.pw_cpp.specs.Answers.{AnswersStep, AnswersText, AnswersTokens, DoesPassed, DoesText, DoesTokens, DoesWhole, IsLexed, IsRead, IsSame, IsStill, IsWithin, Keeps};
 ghost use Rattle.pw_cpp.specs.Files.{name_of};
 ghost use Rattle.pw_cpp_directives.specs.Directives.{fault};
@@ -18,7 +18,7 @@ use pw_cpp_expand::{
 use pw_cpp_lines::{Head, Line, LineFault, Span, lex_line, pass_line};
 use pw_cpp_sources::{Place, digits, put_rows};
 use pw_items::Items;
-use pw_token::Token;
+use pw_token::{Token, text_from};
 use pw_value::Name;
 use std::alloc::{AllocError, Global};
 
@@ -37,7 +37,7 @@ pub struct Reader<'a> {
     pub size: usize,
 }
 
-/// Want of memory.
+/// The fault of memory that was refused, at a place of the source.
 pub fn no_memory(place: usize) -> Fault
     ensures { result ≡ fault CppKind.NoMemory place }
 {
@@ -55,18 +55,11 @@ pub fn bytes_before(bytes: &[u8], count: usize) -> &[u8]
     }
 }
 
-/// The bytes from a place on.
-pub fn bytes_from(bytes: &[u8], at: usize) -> &[u8]
-    ensures { result.now ≡ drop at bytes.now }
-{
-    if at < bytes.len() { &bytes[at..] } else { &[] }
-}
-
-/// The bytes of a name.
+/// The bytes of a name that stands at a span of a text, as far as the text goes.
 pub fn name_in(text: &[u8], name: Span) -> &[u8]
     ensures { result.now ≡ name_of text.now name }
 {
-    bytes_before(bytes_from(text, name.at), name.len)
+    bytes_before(text_from(text, name.at), name.len)
 }
 
 /// What a text line comes to, with what its calls read further.

@@ -6,13 +6,13 @@ ghost use Rattle.pw_cpp_sources.specs.Sources.{File, IsThere, line_of, digits_of
 
 use crate::fault::CppFault;
 use crate::file::place_at;
-use crate::reader::{Reader, bytes_before, bytes_from};
+use crate::reader::{Reader, bytes_before};
 use pw_cpp_directives::{CppKind, Fault, Standing};
 use pw_cpp_macros::Macros;
 use pw_cpp_sets::Sets;
 use pw_cpp_sources::{Source, source_of};
 use pw_items::Items;
-use pw_token::line_at;
+use pw_token::{line_at, text_from};
 use pw_value::Name;
 use std::alloc::{AllocError, Global};
 
@@ -41,7 +41,7 @@ fn placed(
         return Err(AllocError);
     };
     let size = span.end.saturating_sub(span.from);
-    let text = bytes_before(bytes_from(source.bytes.as_slice(), span.from), size);
+    let text = bytes_before(text_from(source.bytes.as_slice(), span.from), size);
     let file = files[number].0.copy(alloc)?;
     let line = line_at(text, fault.place.saturating_sub(span.from)) as u64;
     Ok(CppFault {

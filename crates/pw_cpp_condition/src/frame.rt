@@ -92,6 +92,8 @@ pub fn follow_of(mark: Mark) -> Option<Follow>
     }
 }
 
+/// The level at which a mark behind an operand binds: that of the operator, one above that of `?:` for a `?` (C90
+/// 6.3.15), and that of `?:` for a `:` or a `)`. What waits at this level or a higher one is applied first.
 pub fn follow_level(follow: Follow) -> u8
     ensures { result ≡ spec.follow_level follow }
 {
@@ -143,7 +145,7 @@ pub fn asked(frame: Frame) -> Option<Number>
     }
 }
 
-/// Whether a frame is a `(`.
+/// Whether what waits is a `(`, for its `)`.
 pub fn is_group(frame: Frame) -> bool
     ensures { result ≡ spec.is_group frame }
 {

@@ -31,6 +31,7 @@ pub struct Fault {
     pub place: usize,
 }
 
+/// The fault of a kind at a place, which counts bytes of the source of all files.
 pub fn faulty(kind: CppKind, place: usize) -> Fault
     ensures { result ≡ spec.fault kind place }
 {
@@ -48,6 +49,8 @@ pub fn limit(which: CppWhich, most: usize, place: usize) -> Fault
     }
 }
 
+/// Why an expansion stopped, as a fault of the source: a piece that is no token, a wrong call of a macro, or a passed
+/// limit, each at its own place; want of memory has none, and stands at 0.
 pub fn of_expansion(fault: ExpandFault) -> Fault
     ensures { result ≡ spec.fault_of_expansion fault }
 {

@@ -6,9 +6,8 @@ ghost use Rattle.pw_token.specs.Bytes.{is_in};
 ghost use Rattle.pw_token.specs.declared.bytes.Class.TheVariants.{Word};
 ghost use Rattle.pw_cpp_lines.specs.Heads.{IsHead, IsMarker, IsWordAt, closing_quote, header_name, is_line_marker, is_name_byte};
 
-use crate::bytes::{byte_at, text_from};
 use crate::passing::pass_space;
-use pw_token::{Class, PieceKind, is_in, piece_at};
+use pw_token::{Class, PieceKind, byte_at, is_in, piece_at, text_from};
 
 /// Bytes of a text: the first one's place counted from 0, and how many there are.
 #[derive(Clone, Copy)]

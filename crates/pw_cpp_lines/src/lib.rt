@@ -2,7 +2,6 @@
 //! lines that are passed over.
 #![tactic(auto)]
 
-mod bytes;
 mod head;
 mod laws;
 mod line;

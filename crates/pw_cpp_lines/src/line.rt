@@ -2,11 +2,10 @@
 
 ghost use Rattle.std.specs.Prelude.{◌≡◌, ◌≤◌, ◌++◌, length, IfOk, OnOk};
 ghost use Rattle.pw_token.specs.Tokenization.{token_in};
-ghost use Rattle.pw_cpp_lines.specs.Lines.{AnswersLine, is_line_end, is_space};
+ghost use Rattle.pw_cpp_lines.specs.Lines.{AnswersLine, behind_line, is_line_end, is_space};
 
-use crate::bytes::{behind_line, byte_at};
 use pw_items::Items;
-use pw_token::{PieceKind, Token, piece_at};
+use pw_token::{PieceKind, Token, byte_at, piece_at};
 use std::alloc::{AllocError, Global};
 
 /// The tokens of a logical line, and where the next line begins.
@@ -35,11 +34,18 @@ impl From<AllocError> for LineFault {
     }
 }
 
-/// Whether a line ends at a place.
+/// Whether a line ends at offset `at` of a text: a newline stands there, or the text is over.
 pub fn is_line_end(text: &[u8], at: usize) -> bool
     ensures { result ≡ is_line_end text.now at }
 {
     text.len() <= at || byte_at(text, at) == b'\n'
+}
+
+/// Where the next line begins, of a line that ends at offset `end`: behind its newline, where it has one.
+pub fn behind_line(text: &[u8], end: usize) -> usize
+    ensures { result ≡ behind_line text.now end }
+{
+    if text.len() <= end { end } else { end + 1 }
 }
 
 /// Whether a piece is a blank or a comment.

@@ -5,10 +5,9 @@ ghost use Rattle.pw_cpp_lines.specs.Lines.{PassesSpace, space_len};
 ghost use Rattle.pw_cpp_lines.specs.Passing.{PassesLine, PassesRest, comment_found, is_bare_newline, is_raw_end, opens_comment, or_else, step_len};
 ghost use Rattle.pw_cpp_lines.specs.Walking.{AreUnclosed, IsStep, Walked};
 
-use crate::bytes::{behind_line, byte_at};
-use crate::line::{is_line_end, is_space};
+use crate::line::{behind_line, is_line_end, is_space};
 use crate::quotes::Unclosed;
-use pw_token::{PieceKind, piece_at};
+use pw_token::{PieceKind, byte_at, piece_at};
 
 /// What is passed over from a place on.
 #[derive(Clone, Copy)]

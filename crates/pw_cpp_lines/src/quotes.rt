@@ -5,7 +5,7 @@ ghost use Rattle.pw_cpp_lines.specs.Passing as spec;
 ghost use Rattle.pw_cpp_lines.specs.Passing.{quoted_at};
 ghost use Rattle.pw_cpp_lines.specs.Walking.{AreUnclosed, NoneCloses};
 
-use crate::bytes::byte_at;
+use pw_token::byte_at;
 
 /// The places before which no `'` and no `"` closes that is still to come. So what stands behind such a quote is looked through
 /// once, and not once for each quote of the line.

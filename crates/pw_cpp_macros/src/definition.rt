@@ -97,7 +97,7 @@ fn with_replacement(
     if has_hash(text, replacement) {
         return Err(DefineFault::Hash);
     }
-    let replacement = Items::from_vec(Vec::from_slice(alloc, replacement)?);
+    let replacement = Items::from_slice(alloc, replacement)?;
     let meaning = Macro {
         parameters,
         replacement,

@@ -34,7 +34,7 @@ pub fn is_spelled(text: &[u8], bytes: &[u8], token: Token) -> bool
     spelled(text, token) == bytes
 }
 
-/// Whether a token is a `#` or a `##`.
+/// Whether a token is one of the two operators of replacement lists (C90 6.8.3.2, 6.8.3.3): `#`, or `##`.
 pub fn is_hash(text: &[u8], token: Token) -> bool
     ensures { result ≡ spec.is_hash text.now token }
 {

@@ -37,7 +37,8 @@ fn digit(at: usize) -> Token
     }
 }
 
-/// The tokens of the digits.
+/// The tokens of the digits `0` and `1` at the beginning of every source, by which conditions write what is not
+/// defined and what is (C90 6.8.1).
 pub fn digits() -> Digits
     ensures { result ≡ digits_of }
 {
@@ -47,7 +48,8 @@ pub fn digits() -> Digits
     }
 }
 
-/// The source of files.
+/// All files of a run in one text: the digits, and then of each file a newline and its bytes; and of each file, in
+/// the same order, where its bytes stand. Fails only for want of memory.
 pub fn source_of(alloc: Global, files: &[(Name, Vec<u8>)]) -> Result<Source, AllocError>
     ensures bytes { IfOk result (λ source. source.bytes.items ≡ spec.source_of (spec.texts_of files.now)) }
     ensures count { IfOk result (λ source. length source.spans.items ≡ length files.now) }

@@ -88,8 +88,12 @@ newest fs = of_version database_version fs
 -- ---- what is put into a database
 
 -- directives that hold a web, a register that is free to use, or one to save for others
+abbrev pub say_something : Directives → Bool
+say_something d = nat_lt 0 (length d.webs) || (nat_lt 0 (length d.free) || nat_lt 0 (length d.saves))
+
+-- a function whose directives do
 abbrev pub says_something : List ℕ × Directives → Bool
-says_something f = nat_lt 0 (length f.1.webs) || (nat_lt 0 (length f.1.free) || nat_lt 0 (length f.1.saves))
+says_something f = say_something f.1
 
 -- no name stands twice, and the directives are those of a database
 pub record CanBeStored (fs : List (List ℕ × Directives)) : Type 0 where

@@ -2,7 +2,7 @@
 
 ghost use Rattle.std.specs.Prelude.{◌≡◌, ◌≢◌, map, IfOk, IfSome, IfNone, All, Contains};
 ghost use Rattle.pw_files.specs.Rising.{IsRising};
-ghost use Rattle.pw_db.specs.Database.{IsDatabase, EachTwo, CanBeStored, HasDirectives, empty};
+ghost use Rattle.pw_db.specs.Database.{IsDatabase, EachTwo, CanBeStored, HasDirectives, empty, say_something};
 
 use crate::database::{Database, Directives, Role, Web};
 use pw_items::Items;
@@ -35,13 +35,6 @@ fn copy_webs(alloc: Global, webs: &[(Web, Role)]) -> Result<Items<(Web, Role)>, 
     Ok(copies)
 }
 
-/// The same registers again.
-fn copy_registers(alloc: Global, registers: &[u8]) -> Result<Items<u8>, AllocError>
-    ensures { IfOk result (λ v. v ≡ registers.now) }
-{
-    Ok(Items::from_vec(Vec::from_slice(alloc, registers)?))
-}
-
 impl Directives {
     /// No webs, and no registers that are free to use or to be saved.
     pub fn none(alloc: Global) -> Directives
@@ -54,14 +47,21 @@ impl Directives {
         }
     }
 
+    /// Whether they hold a web, a register that is free to use, or one to save for others; a database has no others.
+    pub fn say_something(&self) -> bool
+        ensures { result ≡ say_something self.now }
+    {
+        !self.webs.is_empty() || (!self.free.is_empty() || !self.saves.is_empty())
+    }
+
     /// The same directives again.
     pub fn copy(&self, alloc: Global) -> Result<Directives, AllocError>
         ensures { IfOk result (λ d. d ≡ self.now) }
     {
         Ok(Directives {
             webs: copy_webs(alloc, self.webs.as_slice())?,
-            free: copy_registers(alloc, self.free.as_slice())?,
-            saves: copy_registers(alloc, self.saves.as_slice())?,
+            free: Items::from_slice(alloc, self.free.as_slice())?,
+            saves: Items::from_slice(alloc, self.saves.as_slice())?,
         })
     }
 }

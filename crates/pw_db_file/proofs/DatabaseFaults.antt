@@ -16,7 +16,8 @@ use Rattle.pw_db.specs.declared.database.Directives.{Directives}
 use Rattle.pw_db.specs.declared.database.Database.{Database}
 use Rattle.pw_db.specs.Limits.{first_register}
 use Rattle.pw_db.specs.Database.{kind, first_version, database_version, of_version}
-use Rattle.pw_db_file.specs.Reading.{number_at, global_at, kind_at, register_at, writes_at, role_at, web_at, next_web, webs_at, kept_at, next_least, registers_at, no_sharing_at, all_sharing_at, Before, function_at, next_function, nothing_before, functions_at, unused_rule, fields_at, payload_at, database_file_at}
+use Rattle.pw_db_sharing.specs.Reading.{kept_at, next_least, registers_at, no_sharing_at, all_sharing_at}
+use Rattle.pw_db_file.specs.Reading.{number_at, global_at, kind_at, register_at, writes_at, role_at, web_at, next_web, webs_at, Before, function_at, next_function, nothing_before, functions_at, unused_rule, fields_at, payload_at, database_file_at}
 
 web_onward : (names : List (List ℕ)) (seen own : List Web) → Onward (web_at names seen own)
 unfolding web_at number_at global_at kind_at register_at writes_at role_at

@@ -29,11 +29,13 @@ use Rattle.pw_db.specs.declared.database.Database.{Database}
 use Rattle.pw_db.specs.declared.database.Directives.{Directives}
 use Rattle.pw_db.specs.Database.{EachTwo, IsWeb, webs_of, IsDirectives, all_webs, Agree, kind, first_version, database_version, IsUnshared, IsDatabase, IsVersioned, of_version, newest, IsStored}
 use Rattle.pw_db.proofs.StoringLaws.{one_stored}
-use Rattle.pw_db_file.specs.Spelling.{web, sharing, function, names_of_function, names_of, names_in, FitsFunction, spelling, IsDatabaseContents, IsDatabaseFile, IsNewFile, IsPayload}
-use Rattle.pw_db_file.specs.Reading.{web_at, next_web, webs_at, sharing_at, Before, function_at, next_function, nothing_before, functions_at, unused_rule, fields_at, payload_at, database_file_at, functions_in}
+use Rattle.pw_db_sharing.specs.Spelling.{sharing}
+use Rattle.pw_db_file.specs.Spelling.{web, function, names_of_function, names_of, names_in, FitsFunction, spelling, IsDatabaseContents, IsDatabaseFile, IsNewFile, IsPayload}
+use Rattle.pw_db_sharing.specs.Reading.{sharing_at}
+use Rattle.pw_db_file.specs.Reading.{web_at, next_web, webs_at, Before, function_at, next_function, nothing_before, functions_at, unused_rule, fields_at, payload_at, database_file_at, functions_in}
 use Rattle.pw_db_file.proofs.EachTwoLaws.{two_push, two_last, two_front, agree_all, first_same}
 use Rattle.pw_db_file.proofs.WebLaws.{FitsWeb, web_spells}
-use Rattle.pw_db_file.proofs.SharingLaws.{FitsSharing, sharing_spells}
+use Rattle.pw_db_sharing.proofs.SharingLaws.{FitsSharing, sharing_spells}
 use Rattle.pw_files.proofs.Standing.{has_by}
 
 -- all fields of a payload are known where the late rules hold

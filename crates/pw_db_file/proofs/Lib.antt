@@ -1,6 +1,5 @@
 pub mod EachTwoLaws
 pub mod WebLaws
-pub mod SharingLaws
 pub mod SeenLaws
 pub mod DatabaseLaws
 pub mod DatabaseFaults

@@ -1,5 +1,5 @@
 -- A web of a file: its fields, and its rules beside the webs before it.
-use Rattle.std.proofs.Common.{◌≡◌, ◌≢◌, ℕ, zero, suc, ◌<◌, Bool, true, false, List, [], ◌∷◌, refl, sym, ap, subst, ◌∙◌, lit<, arith}
+use Rattle.std.proofs.Common.{◌≡◌, ◌≢◌, ℕ, zero, suc, ◌<◌, Bool, true, List, [], ◌∷◌, refl, sym, ap, subst, ◌∙◌, lit<, arith}
 use Rattle.std.specs.Prelude.{IsTrue, Option, Some, None, Contains, not, nat_lt, nat_le, ◌==◌, ◌&&◌}
 use Rattle.std.specs.List.{AllByRecursion, list_all}
 use Rattle.std.specs.Str.{bytes_eq}
@@ -24,6 +24,7 @@ use Rattle.pw_db.specs.declared.database.Web.{Web}
 use Rattle.pw_db.specs.declared.database.Role.{Role}
 use Rattle.pw_db.specs.declared.database.Role.TheVariants.{Entry, Member}
 use Rattle.pw_db.specs.Database.{IsWeb}
+use Rattle.pw_db_sharing.proofs.SharingLaws.{not_true, not_by}
 use Rattle.pw_db_file.specs.Spelling.{web, role_code}
 use Rattle.pw_db_file.specs.Reading.{first_with, fits_first, number_at, global_at, kind_at, register_at, writes_at, role_of, role_at, web_at}
 use Rattle.pw_db_file.proofs.EachTwoLaws.{IsFirst, first_number}
@@ -124,14 +125,6 @@ all_forth test P f (x ∷ xs) e = (f x (first_so (test x) (list_all test xs) e),
 all_back : (test : Web → Bool) (P : Web → Type 0) → ((w : Web) → P w → test w ≡ true) → (xs : List Web) → AllByRecursion P xs → list_all test xs ≡ true
 all_back test P f [] all = refl
 all_back test P f (x ∷ xs) all = both_true (f x all.0) (all_back test P f xs all.1)
-
-pub not_true : (b : Bool) → not b ≡ true → b ≡ true → ⊥
-not_true true e h = absurd cc
-not_true false e h = absurd cc
-
-pub not_by : (b : Bool) → (b ≡ true → ⊥) → not b ≡ true
-not_by true h = absurd (h refl)
-not_by false h = refl
 
 -- all fields that the first web of the number must share with this one
 first_forth_by : (f : Option Web) (w v : Web) → v.id ≡ w.id → f ≡ Some v → fits_first f (λ x. bytes_eq x.global w.global) ≡ true → fits_first f (λ x. scalar_code x.kind == scalar_code w.kind) ≡ true

@@ -18,6 +18,7 @@ use Rattle.pw_db.specs.declared.database.Role.TheVariants.{Entry, Member}
 use Rattle.pw_db.specs.declared.database.Directives.{Directives}
 use Rattle.pw_db.specs.declared.database.Database.{Database}
 use Rattle.pw_db.specs.Database.{webs_of, kind, first_version, database_version, of_version}
+use Rattle.pw_db_sharing.specs.Reading.{sharing_at}
 use Rattle.pw_db_file.specs.Spelling.{names_in}
 
 -- ---- webs that were read before
@@ -80,35 +81,6 @@ next_web own w = own ++ w.0 ∷ []
 -- so many webs of a function, where `seen` are those of the functions before it
 abbrev pub webs_at : List (List ℕ) → List Web → ℕ → List ℕ → Result (List (Web × Role) × List ℕ) ℕ
 webs_at names seen count = items_at (λ own. web_at names (seen ++ own) own) next_web count []
-
--- a register that a callee keeps, from one on, that is none of some others
-unfoldable pub kept_at : List ℕ → ℕ → List ℕ → Result (ℕ × List ℕ) ℕ
-kept_at others least = checked (λ r. (nat_le least r && nat_le r last_register) && list_all (λ q. not (q == r)) others) u8_at
-
-abbrev pub next_least : ℕ → ℕ → ℕ
-next_least least r = suc r
-
--- a list of such registers, which rise
-unfoldable pub registers_at : List ℕ → List ℕ → Result (List ℕ × List ℕ) ℕ
-registers_at others = do
-  count ← u32_at
-  registers ← items_at (kept_at others) next_least count first_register
-  done registers
-
--- the registers that a function is free to use, and those that it saves for others; in the first version there are none
-unfoldable pub no_sharing_at : List ℕ → Result ((List ℕ × List ℕ) × List ℕ) ℕ
-no_sharing_at = do
-  count ← checked (λ n. n == 0) u32_at
-  done ([], [])
-
-unfoldable pub all_sharing_at : List ℕ → Result ((List ℕ × List ℕ) × List ℕ) ℕ
-all_sharing_at = do
-  free ← registers_at []
-  saves ← registers_at free
-  done (free, saves)
-
-abbrev pub sharing_at : ℕ → List ℕ → Result ((List ℕ × List ℕ) × List ℕ) ℕ
-sharing_at version = if version == first_version then no_sharing_at else all_sharing_at
 
 -- the function before, and the webs of all functions before
 pub record Before : Type 0 where

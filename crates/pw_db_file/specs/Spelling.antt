@@ -1,5 +1,5 @@
 -- The spelling of a database: its file, and the payload alone.
-use Rattle.std.specs.Prelude.{◌≡◌, ◌==◌, ℕ, List, [], ◌∷◌, length, map, All, Contains, if◌then◌else◌}
+use Rattle.std.specs.Prelude.{◌≡◌, ℕ, List, [], ◌∷◌, length, map, All, Contains}
 use Rattle.std.specs.List.{flat_map, AllByRecursion}
 use Rattle.pw_fields.specs.Fields.{u8, u32, flag, parts, FitsU32}
 use Rattle.pw_fields.specs.FieldNames.{name_table, name_index}
@@ -12,6 +12,7 @@ use Rattle.pw_db.specs.declared.database.Role.TheVariants.{Entry, Member}
 use Rattle.pw_db.specs.declared.database.Directives.{Directives}
 use Rattle.pw_db.specs.declared.database.Database.{Database}
 use Rattle.pw_db.specs.Database.{webs_of, kind, first_version, database_version, IsVersioned, newest}
+use Rattle.pw_db_sharing.specs.Spelling.{sharing}
 
 -- 0 for an entry, 1 for a member
 abbrev pub role_code : Role → ℕ
@@ -20,11 +21,6 @@ role_code Member = 1
 
 abbrev pub web : List (List ℕ) → Web × Role → List ℕ
 web names w = parts (u32 w.0.id ∷ name_index names w.0.global ∷ scalar w.0.kind ∷ u8 w.0.reg ∷ flag w.0.writes ∷ u8 (role_code w.1) ∷ [])
-
--- The registers that a function is free to use, and those that it saves for others. In the first version there are none of
--- either, and a count of none stands for the first.
-abbrev pub sharing : ℕ → List ℕ × List ℕ → List ℕ
-sharing version shared = if version == first_version then u32 0 else parts (counted u8 shared.0 ∷ counted u8 shared.1 ∷ [])
 
 abbrev pub function : ℕ → List (List ℕ) → List ℕ × Directives → List ℕ
 function version names f = parts (name_index names f.0 ∷ counted (web names) f.1.webs ∷ sharing version (f.1.free, f.1.saves) ∷ [])

@@ -17,7 +17,7 @@ pub fn databases_and_files_are_one_to_one()
     ensures one_new_file { (bytes others : List ℕ) (fs : List (List ℕ × Directives)) → IsNewFile bytes fs → IsNewFile others fs → bytes ≡ others }
 {}
 
-/// The same of payloads.
+/// No bytes are the payload of two lists of functions, and no list has two payloads.
 pub fn databases_and_payloads_are_one_to_one()
     ensures one_database { (bytes : List ℕ) (fs gs : List (List ℕ × Directives)) → IsPayload bytes fs → IsPayload bytes gs → fs ≡ gs }
     ensures one_payload { (bytes others : List ℕ) (fs : List (List ℕ × Directives)) → IsPayload bytes fs → IsPayload others fs → bytes ≡ others }
@@ -35,7 +35,7 @@ pub fn faults_stay()
     ensures { FaultsStay kind first_version database_version fields_at (λ bytes. value_of (database_file_at bytes)) }
 {}
 
-/// The same of payloads.
+/// A fault of a payload lies within the bytes, and rests on those up to the faulty field's end.
 pub fn payload_faults_stay()
     ensures { PayloadFaultsStay (fields_at database_version) (λ bytes. value_of (placed (length bytes) (payload_at bytes))) }
 {}

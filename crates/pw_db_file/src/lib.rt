@@ -5,7 +5,6 @@ pub mod laws;
 mod names;
 mod reading;
 mod seen;
-mod sharing;
 mod storing;
 mod writing;
 

@@ -1,7 +1,6 @@
 //! The names that a database uses.
 
 ghost use Rattle.std.specs.Prelude.{◌≡◌, ◌++◌, map, IfOk, OnOk};
-ghost use Rattle.std.specs.List.{flat_map};
 ghost use Rattle.pw_db_file.specs.Spelling.{names_of, names_of_function};
 
 use pw_db::{Directives, Role, Web};

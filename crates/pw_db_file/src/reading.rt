@@ -1,6 +1,6 @@
 //! Reading a database.
 
-ghost use Rattle.std.specs.Prelude.{◌≡◌, ◌≢◌, ◌==◌, ◌++◌, ◌&&◌, ◌+◌, ◌<◌, ◌^◌, not, nat_lt, ℕ, List, length, map, Option, option_map, IfOk, IfErr, Ok};
+ghost use Rattle.std.specs.Prelude.{◌≡◌, ◌≢◌, ◌==◌, ◌++◌, ◌+◌, ◌<◌, ◌^◌, not, nat_lt, ℕ, List, length, map, Option, option_map, IfOk, IfErr, Ok};
 ghost use Rattle.std.specs.List.{list_all, flat_map};
 ghost use Rattle.std.specs.Str.{bytes_eq};
 ghost use Rattle.pw_fields.specs.Fields.{text, items_at};
@@ -19,8 +19,8 @@ ghost use Rattle.pw_db_file.specs.Seen.{known_web};
 
 use crate::names::used_names;
 use crate::seen::{Known, Seen};
-use crate::sharing::{Sharing, read_sharing};
 use pw_db::{Database, Directives, FIRST, FIRST_REGISTER, KIND, LAST_REGISTER, Role, VERSION, Web};
+use pw_db_sharing::{Sharing, read_sharing};
 use pw_fields::names::read_name;
 use pw_fields::{FieldFault, read_choice, read_flag, read_u8, read_u32};
 use pw_files::format::{Format, read_contents, read_value};

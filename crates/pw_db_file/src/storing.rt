@@ -10,14 +10,6 @@ use pw_db::Directives;
 use pw_value::Name;
 use std::alloc::{AllocError, Global};
 
-/// Whether the directives of a function hold a web, a register that is free to use, or one to save for others.
-fn says_something(function: &(Name, Directives)) -> bool
-    ensures { result ≡ says_something function.now }
-{
-    let directives = &function.1;
-    !directives.webs.is_empty() || (!directives.free.is_empty() || !directives.saves.is_empty())
-}
-
 /// The functions whose directives say something.
 fn speaking(
     alloc: Global,
@@ -27,7 +19,7 @@ fn speaking(
 {
     let mut stored = Vec::new(alloc);
     for function in functions {
-        if says_something(function) {
+        if function.1.say_something() {
             stored.push(function)?;
         }
     }

@@ -1,16 +1,16 @@
 //! Writing a database.
 
-ghost use Rattle.std.specs.Prelude.{◌≡◌, ◌++◌, ◌<◌, ◌^◌, map, OnOk, IfOk, All, Contains};
+ghost use Rattle.std.specs.Prelude.{◌≡◌, ◌++◌, map, OnOk, IfOk, All, Contains};
 ghost use Rattle.std.specs.List.{flat_map};
 ghost use Rattle.pw_fields.specs.Fields.{u8, FitsU32};
-ghost use Rattle.pw_fields.specs.FieldNames.{IsNameTable, IsTableOf};
-ghost use Rattle.pw_files.specs.Rising.{counted};
+ghost use Rattle.pw_fields.specs.FieldNames.{IsNameTable};
 ghost use Rattle.pw_db.specs.Database.{IsDatabase, IsVersioned, of_version};
-ghost use Rattle.pw_db_file.specs.Spelling.{IsDatabaseContents, IsDatabaseFile, IsNewFile, IsPayload, FitsFunction, FitsDatabase, IsNamedBy, role_code, sharing, web as web_text, function as function_text, names_of, spelling};
+ghost use Rattle.pw_db_file.specs.Spelling.{IsDatabaseContents, IsDatabaseFile, IsNewFile, IsPayload, FitsFunction, FitsDatabase, IsNamedBy, role_code, web as web_text, function as function_text, spelling};
 ghost use Rattle.pw_files.specs.Contents.{IsContentsOf};
 
 use crate::names::used_names;
-use pw_db::{Database, Directives, FIRST, KIND, Role, VERSION, Web};
+use pw_db::{Database, Directives, KIND, Role, VERSION, Web};
+use pw_db_sharing::push_sharing;
 use pw_fields::names::{push_name, push_names};
 use pw_fields::writing::{push_flag, push_u8, push_u32};
 use pw_files::kinds::push_scalar;
@@ -52,37 +52,6 @@ fn push_webs(out: &mut Vec<u8>, names: &[Name], webs: &[(Web, Role)]) -> Result<
         push_web(out, names, web)?;
     }
     Ok(())
-}
-
-/// Registers, one after the other.
-fn push_registers(out: &mut Vec<u8>, registers: &[u8]) -> Result<(), AllocError>
-    ensures { OnOk result (out.new.items ≡ out.old.items ++ flat_map u8 registers.now) }
-{
-    for register in registers {
-        push_u8(out, *register)?;
-    }
-    Ok(())
-}
-
-/// A list of registers.
-#[tactic(auto, unfolding(pw_files::specs::Rising::counted))]
-fn push_list(out: &mut Vec<u8>, registers: &[u8]) -> Result<(), AllocError>
-    ensures { OnOk result (out.new.items ≡ out.old.items ++ counted u8 registers.now) }
-{
-    push_count(out, registers.len())?;
-    push_registers(out, registers)
-}
-
-/// The registers that a function shares with others, in a version: a count of none stands for them in the first.
-fn push_sharing(out: &mut Vec<u8>, version: u32, directives: &Directives) -> Result<(), AllocError>
-    ensures { OnOk result (out.new.items ≡ out.old.items ++ sharing version (directives.now.free, directives.now.saves)) }
-{
-    if version == FIRST {
-        push_u32(out, 0)
-    } else {
-        push_list(out, directives.free.as_slice())?;
-        push_list(out, directives.saves.as_slice())
-    }
 }
 
 /// A function.

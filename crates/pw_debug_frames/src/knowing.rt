@@ -5,7 +5,6 @@ ghost use Rattle.std.specs.List.{AllByRecursion};
 ghost use Rattle.pw_flow.specs.ValidFlow.{IsFunction};
 ghost use Rattle.pw_db.specs.Database.{IsDirectives};
 ghost use Rattle.pw_webflow.specs.Direction.{directed};
-ghost use Rattle.pw_alloc.specs.ValidPlaces.{IsLocated};
 ghost use Rattle.pw_alloc_temps.specs.Temporaries.{allocated};
 ghost use Rattle.pw_debug.specs.declared.info.FrameInfo.{FrameInfo as AnyInfo};
 ghost use Rattle.pw_debug.specs.Knowing.{IsFrame};
@@ -13,28 +12,14 @@ ghost use Rattle.pw_debug_frames.specs.Frames.{AreFrames, AreFramesOf, IsMade, f
 
 use crate::reading::{flow_of, stored_of};
 use crate::saving::info_of;
-use pw_alloc::Located;
-use pw_allocate::allocate_owned;
 use pw_db::Directives;
 use pw_debug::FrameInfo;
 use pw_flow::FlowFn;
 use pw_items::Items;
 use pw_object::Object;
-use pw_phase_two::directives_for;
+use pw_phase_two::{directives_for, locate};
 use pw_value::Name;
-use pw_webflow::direct;
 use std::alloc::{AllocError, Global};
-
-/// A function under its directives, with places.
-fn locate(alloc: Global, f: &FlowFn, d: &Directives) -> Result<Located, AllocError>
-    requires function { IsFunction f.now }
-    requires directives { IsDirectives d.now }
-    ensures value { IfOk result (λ l. l ≡ allocated (directed f.now d.now)) }
-    ensures lawful { IfOk result (λ l. IsLocated l) }
-{
-    let directed = direct(alloc, f, d)?;
-    allocate_owned(alloc, directed)
-}
 
 /// What is known of a function under its directives.
 fn known(alloc: Global, f: &FlowFn, d: &Directives) -> Result<FrameInfo, AllocError>

@@ -22,7 +22,8 @@ fn scalar_from(code: u8) -> Kind
     }
 }
 
-/// A kind, or none.
+/// Reads the byte of a scalar's kind, or that of none, and answers what is left behind it. Another byte than 0 to 5,
+/// and no byte, is a fault.
 #[tactic(auto, unfolding(crate::specs::Kinds::kind_at))]
 pub fn read_kind(bytes: &[u8]) -> Result<(Option<Kind>, &[u8]), FieldFault>
     ensures found { AnswersField (λ x. (x.0, x.1.now)) result (kind_at bytes.now) }
@@ -64,7 +65,7 @@ pub fn code_of(kind: Kind) -> u8
     }
 }
 
-/// A kind, or none.
+/// Writes the byte of a scalar's kind, 1 to 5, or 0 for none.
 pub fn push_kind(out: &mut Vec<u8>, kind: Option<Kind>) -> Result<(), AllocError>
     ensures { OnOk result (out.new.items ≡ out.old.items ++ kind_byte kind) }
 {

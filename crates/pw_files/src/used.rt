@@ -15,7 +15,7 @@ pub fn add_names<'a>(used: &mut Vec<&'a Name>, names: &'a [Name]) -> Result<(), 
     Ok(())
 }
 
-/// Adds the names of names with shapes.
+/// Adds the names out of a list of declarations, which are names with shapes, in order.
 pub fn add_shaped<'a>(
     used: &mut Vec<&'a Name>,
     items: &'a [(Name, Shape)],

@@ -1,6 +1,7 @@
 -- The lists of successors after one edge more.
-use Rattle.std.proofs.Common.{◌≡◌, ℕ, ◌+◌, ◌<◌, List, [], ◌∷◌, ◌++◌, length, Some, sym, subst, ap, inl, inr, ◌⊎◌, ◌↔◌, get_or, set, take, Global}
-use Rattle.std.specs.Prelude.{slice_get, Contains, Vec}
+use Rattle.std.proofs.Common.{◌≡◌, ℕ, ◌+◌, ◌<◌, List, [], ◌∷◌, ◌++◌, length, Some, sym, subst, ap, inl, inr, ◌⊎◌, ◌↔◌, get_or, set, take}
+use Rattle.std.specs.Prelude.{slice_get, Contains}
+use Rattle.smallvec.specs.SmallVec.{SmallVec}
 use Rattle.std.proofs.lemmas.List.{take_more}
 use Rattle.std.proofs.lemmas.List.Elements.{Contains-push_cases, Contains-push, Contains-append_left}
 use Rattle.pw_fix.specs.Solution.{HasEdge}
@@ -17,10 +18,10 @@ pub front_last : {E : Type 0} (xs : List E) (i : ℕ) (d : E) → i < length xs 
 front_last xs i d h = subst (λ ys. Contains ys (get_or xs i d)) (sym (take_more xs i d h)) (Contains-push (take i xs) (get_or xs i d))
 
 -- the rows of the edges so far
-abbrev pub AreRows : List (Vec ℕ Global) → List (ℕ × ℕ) → Type 0
-AreRows rows edges = (m n : ℕ) (row : Vec ℕ Global) → slice_get rows m ≡ Some row → Contains row.items n ↔ HasEdge edges m n
+abbrev pub AreRows : List (SmallVec ℕ) → List (ℕ × ℕ) → Type 0
+AreRows rows edges = (m n : ℕ) (row : SmallVec ℕ) → slice_get rows m ≡ Some row → Contains row.items n ↔ HasEdge edges m n
 
-module _ (rows : List (Vec ℕ Global)) (edges : List (ℕ × ℕ)) (i : ℕ) (within : i < length edges) (exact : AreRows rows (take i edges)) (old new : Vec ℕ Global) (there : slice_get rows (get_or edges i (0, 0)).0 ≡ Some old) (pushed : new.items ≡ old.items ++ (get_or edges i (0, 0)).1 ∷ []) where
+module _ (rows : List (SmallVec ℕ)) (edges : List (ℕ × ℕ)) (i : ℕ) (within : i < length edges) (exact : AreRows rows (take i edges)) (old new : SmallVec ℕ) (there : slice_get rows (get_or edges i (0, 0)).0 ≡ Some old) (pushed : new.items ≡ old.items ++ (get_or edges i (0, 0)).1 ∷ []) where
   abbrev edge : ℕ × ℕ
   edge = get_or edges i (0, 0)
 

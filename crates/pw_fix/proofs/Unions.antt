@@ -1,14 +1,14 @@
 -- A least upper bound of two sets is their union, since the union is a set of that length too.
-use Rattle.std.proofs.Common.{◌≡◌, ℕ, zero, suc, ◌≤◌, List, [], ◌∷◌, ◌++◌, length, sym, subst, ap, inl, inr, ◌⊎◌, ◌↔◌, get_or, take, drop, ◌∙◌, refl, arith, vec_len}
+use Rattle.std.proofs.Common.{◌≡◌, ℕ, zero, suc, ◌≤◌, List, [], ◌∷◌, ◌++◌, length, sym, subst, ap, inl, inr, ◌⊎◌, ◌↔◌, get_or, ◌∙◌, refl, arith}
 use Rattle.std.specs.Prelude.{bit_or}
 use Rattle.std.specs.Int.{div_ceil}
-use Rattle.std.specs.Vec.{with_items}
+use Rattle.smallvec.specs.SmallVec.{with_items}
+use Rattle.smallvec.proofs.SmallVecLemmas.{items-with_items}
 use Rattle.pw_fix.specs.Order.{IsJoin}
 use Rattle.pw_fix.specs.Row.{Holds, IsSubset}
 use Rattle.pw_fix.specs.Words.{HasBit}
 use Rattle.pw_fix.specs.declared.bit_row.BitRow.{BitRow}
 use Rattle.pw_fix.proofs.Bits.{union_bits}
-use Rattle.pw_fix.proofs.Places.{all_written}
 
 -- word by word
 abbrev or_words : List ℕ → List ℕ → List ℕ
@@ -32,11 +32,8 @@ module _ (x y : BitRow) (same : y.len ≡ x.len) where
   abbrev words : List ℕ
   words = or_words x.words.items y.words.items
 
-  as_long : length words ≡ vec_len x.words
-  as_long = length-or_words x.words.items y.words.items ∙ sym x.words.ok.0
-
-  written : take (vec_len x.words) (words ++ drop (length words) x.words.items) ≡ words
-  written = all_written (vec_len x.words) words x.words.items as_long (sym x.words.ok.0)
+  written : (with_items x.words words).items ≡ words
+  written = items-with_items x.words words (length-or_words x.words.items y.words.items)
 
   both_long : length x.words.items ≡ length y.words.items
   both_long = x.enough ∙ ap (λ n. div_ceil n 64) (sym same) ∙ sym y.enough

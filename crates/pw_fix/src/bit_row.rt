@@ -5,14 +5,17 @@ ghost use Rattle.std.specs.Bool.{OnTrue, OnFalse};
 ghost use Rattle.std.specs.Int.{div_ceil};
 ghost use Rattle.pw_fix.specs.Words.{HasBit};
 
-use crate::words::{covers_words, full_words, meet_words, subtract_words, union_words};
+use crate::words::{
+    covers_words, full_words, has_bit, meet_words, next_bit, set_bit, subtract_words, union_words,
+};
+use smallvec::SmallVec;
 use std::alloc::{AllocError as NoMemory, Global};
 
 /// A set of numbers below `len`: it holds i where bit i mod 64 of word i / 64 is 1.
 #[derive(Drop)]
 pub struct BitRow {
     pub len: usize,
-    pub words: Vec<u64>,
+    pub words: SmallVec<u64, 1>,
     // As many words as the length needs, and no bit set from `len` on.
     pub ghost enough: { length words.items ≡ div_ceil len 64 },
     pub ghost unused: { (i : ℕ) → len ≤ i → ¬ (HasBit words.items i) },
@@ -26,7 +29,7 @@ impl BitRow {
         ensures length { IfOk result (λ row. row.len ≡ len) }
         ensures empty { IfOk result (λ row. (i : ℕ) → ¬ (Holds row i)) }
     {
-        let words = vec![in alloc; 0u64; len.div_ceil(64)]?;
+        let words = SmallVec::from_elem(alloc, 0u64, len.div_ceil(64))?;
         Ok(BitRow { len, words })
     }
 
@@ -35,7 +38,7 @@ impl BitRow {
         ensures length { IfOk result (λ row. row.len ≡ len) }
         ensures all { IfOk result (λ row. (i : ℕ) → i < len → Holds row i) }
     {
-        let words = full_words(alloc, len)?;
+        let words = SmallVec::from_vec(full_words(alloc, len)?);
         Ok(BitRow { len, words })
     }
 
@@ -43,8 +46,7 @@ impl BitRow {
     pub fn contains(&self, i: usize) -> bool
         ensures { IsTrue result ↔ Holds self.now i }
     {
-        let place = i / 64;
-        place < self.words.len() && (self.words[place] >> (i % 64)) & 1 == 1
+        has_bit(self.words.as_slice(), i)
     }
 
     /// Puts `i` into the set, and answers whether it is new there.
@@ -54,11 +56,7 @@ impl BitRow {
         ensures holds { (k : ℕ) → Holds self.new k ↔ ((k ≡ i) ⊎ Holds self.old k) }
         ensures added { IsTrue result ↔ ¬ (Holds self.old i) }
     {
-        let place = i / 64;
-        let bit = 1u64 << (i % 64);
-        let word = self.words[place];
-        self.words[place] = word | bit;
-        word & bit == 0
+        set_bit(self.words.as_mut_slice(), i)
     }
 
     /// The least number of the set from `from` on.
@@ -67,21 +65,8 @@ impl BitRow {
         ensures least { IfSome result (λ i. (k : ℕ) → from ≤ k → k < i → ¬ (Holds self.now k)) }
         ensures none { IfNone result ((k : ℕ) → from ≤ k → ¬ (Holds self.now k)) }
     {
-        let place = from / 64;
-        if place >= self.words.len() {
-            return None;
-        }
-        let first = self.words[place] & (u64::MAX << (from % 64));
-        if first != 0 {
-            return Some(place * 64 + first.trailing_zeros() as usize);
-        }
-        for k in place + 1..self.words.len() {
-            let word = self.words[k];
-            if word != 0 {
-                return Some(k * 64 + word.trailing_zeros() as usize);
-            }
-        }
-        None
+        let _len = self.len;
+        next_bit(self.words.as_slice(), from)
     }
 
     /// Joins `other` into the set, and answers whether that added a number.
@@ -92,7 +77,7 @@ impl BitRow {
         ensures added { OnTrue result ((k : ℕ) × Holds other.now k × ¬ (Holds self.old k)) }
         ensures unchanged { OnFalse result ((k : ℕ) → Holds other.now k → Holds self.old k) }
     {
-        union_words(&mut self.words, &other.words)
+        union_words(self.words.as_mut_slice(), other.words.as_slice())
     }
 
     /// Takes from the set what `other` holds.
@@ -101,7 +86,7 @@ impl BitRow {
         ensures length { self.new.len ≡ self.old.len }
         ensures holds { (k : ℕ) → Holds self.new k ↔ (Holds self.old k × ¬ (Holds other.now k)) }
     {
-        subtract_words(&mut self.words, &other.words)
+        subtract_words(self.words.as_mut_slice(), other.words.as_slice())
     }
 
     /// Makes the set that of `other`.
@@ -110,7 +95,9 @@ impl BitRow {
         ensures length { self.new.len ≡ self.old.len }
         ensures holds { (k : ℕ) → Holds self.new k ↔ Holds other.now k }
     {
-        self.words.copy_from_slice(&other.words)
+        self.words
+            .as_mut_slice()
+            .copy_from_slice(other.words.as_slice())
     }
 
     /// Whether each number of the set is one of `other`.
@@ -118,7 +105,7 @@ impl BitRow {
         requires { other.now.len ≡ self.now.len }
         ensures { IsTrue result ↔ ((k : ℕ) → Holds self.now k → Holds other.now k) }
     {
-        covers_words(&self.words, &other.words)
+        covers_words(self.words.as_slice(), other.words.as_slice())
     }
 
     /// Whether some number is in both sets.
@@ -126,6 +113,6 @@ impl BitRow {
         requires { other.now.len ≡ self.now.len }
         ensures { IsTrue result ↔ ((k : ℕ) × Holds self.now k × Holds other.now k) }
     {
-        meet_words(&self.words, &other.words)
+        meet_words(self.words.as_slice(), other.words.as_slice())
     }
 }

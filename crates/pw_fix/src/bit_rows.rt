@@ -32,7 +32,7 @@ impl BitRows {
         Ok(BitRows { len, rows })
     }
 
-    /// Row `n`.
+    /// The set in row `n`, counted from 0.
     pub fn row(&self, n: usize) -> &BitRow
         requires { n < vec_len self.now.rows }
         ensures length { result.now.len ≡ self.now.len }

@@ -1,7 +1,9 @@
 //! Directed graphs by a count of nodes and a list of edges.
 
-ghost use Rattle.std.specs.Prelude.{◌≡◌, ℕ, ◌<◌, ◌↔◌, List, All, Contains, IfOk, Some, Vec, slice_get, vec_len};
+ghost use Rattle.std.specs.Prelude.{◌≡◌, ℕ, ◌<◌, ◌↔◌, List, All, Contains, IfOk, Some, slice_get, vec_len};
+ghost use Rattle.smallvec.specs.SmallVec.{SmallVec as Row};
 
+use smallvec::SmallVec;
 use std::alloc::{AllocError as NoMemory, Global};
 
 /// A directed graph. The nodes are the numbers below `nodes`, and each edge goes from its first
@@ -17,14 +19,14 @@ impl Graph {
     ghost use Rattle.pw_fix.specs.Solution.{HasEdge};
 
     /// For each node the nodes to which its edges go, in the order of the edges.
-    pub(crate) fn successors(&self, alloc: Global) -> Result<Vec<Vec<usize>>, NoMemory>
+    pub(crate) fn successors(&self, alloc: Global) -> Result<Vec<SmallVec<usize, 2>>, NoMemory>
         ensures each { IfOk result (λ rows. vec_len rows ≡ self.now.nodes) }
-        ensures exact { IfOk result (λ rows. (m n : ℕ) (row : Vec ℕ Global) → slice_get rows.items m ≡ Some row
+        ensures exact { IfOk result (λ rows. (m n : ℕ) (row : Row ℕ) → slice_get rows.items m ≡ Some row
             → Contains row.items n ↔ HasEdge self.now.edges.items m n) }
     {
         let mut rows = Vec::with_capacity(alloc, self.nodes)?;
         for _ in 0..self.nodes {
-            rows.push(Vec::new(alloc))?;
+            rows.push(SmallVec::new(alloc))?;
         }
         for &(from, to) in &self.edges {
             rows[from].push(to)?;

@@ -118,7 +118,7 @@ pub fn solve<P: Problem>(
             spread(
                 lattice,
                 &values[node],
-                &successors[node],
+                successors[node].as_slice(),
                 &mut inflows,
                 &mut waiting,
             )?;

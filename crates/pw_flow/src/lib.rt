@@ -3,8 +3,10 @@
 #![tactic(auto)]
 
 mod flow;
+mod globals;
 pub mod names;
 
 pub use flow::{
     BinKind, Block, End, ExtKind, FlowFn, FlowGlobal, FlowModule, Item, Op, UnKind, kind_size,
 };
+pub use globals::{add_globals, copy_globals};

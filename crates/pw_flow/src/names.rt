@@ -59,7 +59,7 @@ pub fn global_names(alloc: Global, globals: &[FlowGlobal]) -> Result<Vec<&Name>,
     Ok(names)
 }
 
-/// The names of functions alone.
+/// The names of functions, in order, without those that their code uses. Fails only for want of memory.
 pub fn function_names(alloc: Global, functions: &[FlowFn]) -> Result<Vec<&Name>, AllocError>
     ensures { IfOk result (λ v. map (λ name. name.now) v.items ≡ map (λ f. f.name) functions.now) }
 {

@@ -54,7 +54,8 @@ pub fn read_op_code(bytes: &[u8]) -> Result<(OpCode, &[u8]), FieldFault>
     read_one_of(&OP_CODES, bytes)
 }
 
-/// Which end.
+/// Reads the byte that tells how a block ends, and answers what is left behind it. A byte of no end, and no byte, is
+/// a fault.
 pub fn read_end_code(bytes: &[u8]) -> Result<(EndCode, &[u8]), FieldFault>
     ensures found { AnswersField (λ x. (x.0, x.1.now)) result (one_of_at end_codes bytes.now) }
     ensures no_memory { IfErr result (λ e. e ≢ FieldFault.NoMemory) }

@@ -265,7 +265,8 @@ fn push_op(out: &mut Vec<u8>, names: &[Name], op: &Op) -> Result<(), AllocError>
     }
 }
 
-/// Operations.
+/// Writes operations one behind another, each as its code and its fields; `names` is the file's table, and has each
+/// name that they use.
 pub fn push_ops(out: &mut Vec<u8>, names: &[Name], ops: &[Op]) -> Result<(), AllocError>
     requires table { IsNameTable names.now }
     requires stand { AllByRecursion (Contains names.now) (flat_map op_names ops.now) }

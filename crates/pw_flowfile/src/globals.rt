@@ -45,10 +45,7 @@ fn read_content<'a>(
     match form {
         ItemForm::Bytes => {
             let (text, rest) = read_item_bytes(place.0, place.1, bytes)?;
-            Ok((
-                Item::Bytes(Items::from_vec(Vec::from_slice(alloc, text)?)),
-                rest,
-            ))
+            Ok((Item::Bytes(Items::from_slice(alloc, text)?), rest))
         }
         ItemForm::Address => {
             let (name, rest) = read_named(start, names, bytes)?;

@@ -72,7 +72,8 @@ pub fn push_global_body(
     push_items(out, names, global.items.as_slice())
 }
 
-/// An object.
+/// Writes an object of a flow graph: its name, size, shape, kind, whether it is volatile, and its initial items;
+/// `names` is the file's table, and has each name that it uses.
 pub fn push_global(out: &mut Vec<u8>, names: &[Name], global: &FlowGlobal) -> Result<(), AllocError>
     requires table { IsNameTable names.now }
     requires stand { AllByRecursion (Contains names.now) (all_in_global global.now) }

@@ -1,19 +1,18 @@
 -- What `go` comes to: a build over the files of a store, and the run of its image over an input.
-use Rattle.std.specs.Prelude.{◌≡◌, ◌≢◌, ℕ, List, Option, Result, Ok, Err}
-use Rattle.pw_value.specs.declared.fault.LinkFault.TheVariants as link
+use Rattle.std.specs.Prelude.{◌≡◌, ℕ, List, Option, Result, Ok, Err}
 use Rattle.pw_io.specs.Files.{Files, Told}
-use Rattle.pw_front_end.specs.Fronts.{HoldsNoWant}
 use Rattle.pw_image.specs.declared.image.Image.{Image}
 use Rattle.pw_image.specs.Image.{Contents, IsImageFile}
 use Rattle.pw_machine.specs.Run.{Progress, run_of}
 use Rattle.pw_machine.specs.Start.{image_start}
 use Rattle.pw_top_answer.specs.declared.answer.Answer.{Answer}
-use Rattle.pw_top_answer.specs.declared.answer.Answer.TheVariants.{Done, Usage, Refused, LinkRefused, StoreFault, NoMemory, BadFile, BadScript, NoFrames, RefusedSource, Cpp, Undefined, UndefinedSource}
+use Rattle.pw_top_answer.specs.declared.answer.Answer.TheVariants.{StoreFault, NoMemory}
 use Rattle.pw_top_answer.specs.Effects.{Effect, NamedFile, PutsFiles, answers_alone}
 use Rattle.pw_top_answer.specs.Outcomes.{Answers, LeavesInput, PutsOut}
-use Rattle.pw_commands.specs.MachineRun.{run_answer, run_output, run_rest, start_state}
+use Rattle.pw_commands.specs.MachineRun.{IsRunAnswer, run_answer, run_output, run_rest, start_state}
 use Rattle.pw_build_files.specs.FromBuild.BuildFault.{BuildFault}
 use Rattle.pw_build_files.specs.Building.{Outcome, puts_of}
+use Rattle.pw_build_files.specs.Driving.{IsBuiltAnswer}
 use Rattle.pw_build_files.specs.Seen.{SeenOutcome}
 use Rattle.pw_build_files.specs.Outcomes.{AnswersOutcome, fault_answer}
 use Rattle.pw_build_opts.specs.declared.opts.Opts.{Opts}
@@ -55,20 +54,9 @@ pub record HasBuilt (opts : Opts) (answer : Answer) (told : Told) (new : Option 
 
 -- ---- answers
 
--- the answers of the command, whose refusals are none for want of memory
+-- the answers of the command, which runs its image then
 abbrev pub IsGoAnswer : Answer → Type 0
-IsGoAnswer Done = ⊥
-IsGoAnswer Usage = ⊥
-IsGoAnswer (Refused name refusal) = HoldsNoWant refusal
-IsGoAnswer (RefusedSource name refusal) = ⊥
-IsGoAnswer (Cpp fault) = ⊥
-IsGoAnswer (LinkRefused fault) = fault ≢ link.NoMemory
-IsGoAnswer (BadFile name at) = ⊥
-IsGoAnswer (BadScript at) = ⊥
-IsGoAnswer (NoFrames address) = ⊥
-IsGoAnswer (Undefined operation name token) = ⊥
-IsGoAnswer (UndefinedSource operation name token) = ⊥
-IsGoAnswer _ = Unit {0}
+IsGoAnswer = IsBuiltAnswer IsRunAnswer
 
 -- ---- inside
 

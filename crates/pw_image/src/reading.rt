@@ -89,7 +89,7 @@ fn read_item(
 {
     let (offset, rest) = read_offset(size, free, bytes)?;
     let (text, rest) = read_item_bytes(size, offset, rest)?;
-    let bytes = Items::from_vec(Vec::from_slice(alloc, text)?);
+    let bytes = Items::from_slice(alloc, text)?;
     Ok((DataItem { offset, bytes }, rest))
 }
 

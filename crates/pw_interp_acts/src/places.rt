@@ -38,7 +38,8 @@ fn object_place(numbers: &[Option<u128>], local: u32) -> Option<Value>
     }
 }
 
-/// The place of a local that is in scope.
+/// The place of a local: the first byte of its object, or the end of the run as wrong where none is in scope, which
+/// no accepted program does.
 pub fn local_place<'a>(env: &Env<'a>, local: u32) -> Result<Value, Stop<'a>>
     ensures answers { (s : Shown) → Answers (λ x. x) (view_env env.now).world (meaning.local_place (view_env env.now) local) s result s }
     ensures no_memory { IfErr result (λ stop. stop ≢ Stop.NoMemory) }

@@ -32,6 +32,7 @@ pub fn used<'a>(env: &Env<'a>, token: usize, answer: Option<Value>) -> Result<Va
 }
 
 /// The value of an lvalue of a category at a place; of void there is none.
+#[inline(always)]
 fn value_by(objects: &Objects, category: Category, place: Value) -> Result<Option<Value>, Fault>
     ensures { result ≡ spec.value_by objects.now category place }
 {
@@ -49,6 +50,7 @@ fn value_by(objects: &Objects, category: Category, place: Value) -> Result<Optio
 }
 
 /// The value of an lvalue of a type at a place; what a pointer to void points to has none (ISO C90 6.2.2.1, 6.2.2.2).
+#[inline(always)]
 pub fn value_at<'a>(
     env: &Env<'a>,
     state: &State,

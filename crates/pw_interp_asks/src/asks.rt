@@ -172,7 +172,8 @@ fn ask_place<'a>(
     }
 }
 
-/// What is left of what is asked.
+/// What is left to do where the value of an expression, or the place of an lvalue, is asked: the operand that is
+/// evaluated first with what follows behind it, or at once the value or the place.
 pub fn ask<'a>(
     alloc: Global,
     env: &Env<'a>,

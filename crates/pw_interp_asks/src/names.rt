@@ -27,7 +27,7 @@ pub fn string_place<'a>(alloc: Global, env: &Env<'a>, number: u32) -> Result<Val
     symbol_place(alloc, env, &symbol)
 }
 
-/// The place of a local.
+/// The place that the name of a local denotes as an lvalue (C90 6.3.1): the first byte of its object.
 pub fn own_place<'a>(env: &Env<'a>, local: u32) -> Result<Value, Stop<'a>>
     ensures locates { (bound token : ℕ) (ty : types.QType) (s : Shown) → Locates (view_env env.now) bound (tree.Node token ty (tree.Local local)) s result s }
     ensures no_memory { IfErr result (λ stop. stop ≢ Stop.NoMemory) }
@@ -42,7 +42,7 @@ pub fn global_place<'a>(alloc: Global, env: &Env<'a>, symbol: &Symbol) -> Result
     symbol_place(alloc, env, symbol)
 }
 
-/// The place of a function.
+/// The place that the name of a function denotes, as a function designator (C90 6.3.1).
 pub fn function_place<'a>(alloc: Global, env: &Env<'a>, symbol: &Symbol) -> Result<Value, Stop<'a>>
     ensures { (bound token : ℕ) (ty : types.QType) (s : Shown) → Locates (view_env env.now) bound (tree.Node token ty (tree.Function (view_symbol symbol.now))) s result s }
 {
@@ -64,7 +64,9 @@ pub fn string<'a>(
     value_at(env, state, token, ty, place)
 }
 
-/// The value of a local.
+/// The value of the name of a local (C90 6.3.1): what its object's bytes hold as this type. Where they hold none, the
+/// run ends at the token, as an undefined operation.
+#[inline(always)]
 pub fn local<'a>(
     env: &Env<'a>,
     state: &State,

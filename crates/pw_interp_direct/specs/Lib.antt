@@ -1,1 +1,3 @@
+pub mod Direct
+pub mod Heights
 pub mod Operands

@@ -1,11 +1,19 @@
 //! Which expressions are evaluated at once.
 
+ghost use Rattle.std.specs.Prelude.{◌≤◌, ◌↔◌, IsTrue};
+ghost use Rattle.pw_typed.specs.Views.{view_expr};
+ghost use Rattle.pw_interp_direct.specs.Direct.{IsDirect, HasDirectPlace};
+ghost use Rattle.pw_interp_direct.specs.Heights.{height};
+
 use pw_typed::{TExpr, TForm};
 
-/// Whether the result of an expression is evaluated at once: no node in it stands deeper than so many, and nothing in it is
-/// called or chosen.
+/// Whether the result of an expression is evaluated at once: nothing in it is called or chosen, and no node stands deeper than
+/// so many; the expression's own is the first.
 #[cycle(sizes)]
-pub fn is_direct(e: &TExpr, depth: u32) -> bool {
+#[tactic(auto, unfolding(pw_typed::specs::Views::view_form, crate::specs::Direct::IsDirect, crate::specs::Heights::height))]
+pub fn is_direct(e: &TExpr, depth: u32) -> bool
+    ensures { IsTrue result ↔ (IsDirect (view_expr e.now) × height (view_expr e.now) ≤ depth) }
+{
     if depth == 0 {
         return false;
     }
@@ -26,7 +34,10 @@ pub fn is_direct(e: &TExpr, depth: u32) -> bool {
 
 /// The same of the place that an lvalue denotes.
 #[cycle(sizes)]
-fn has_direct_place(e: &TExpr, depth: u32) -> bool {
+#[tactic(auto, unfolding(pw_typed::specs::Views::view_form, crate::specs::Direct::IsDirect, crate::specs::Heights::height))]
+fn has_direct_place(e: &TExpr, depth: u32) -> bool
+    ensures { IsTrue result ↔ (HasDirectPlace (view_expr e.now) × height (view_expr e.now) ≤ depth) }
+{
     if depth == 0 {
         return false;
     }

@@ -10,6 +10,7 @@ ghost use Rattle.pw_interp_state.specs.Shown.{view_state};
 ghost use Rattle.pw_interp_calls.specs.Answers.{Answers};
 ghost use Rattle.pw_interp_calls.specs.Evaluates.{Evaluates, Locates};
 ghost use Rattle.pw_interp_calls.specs.Views.{view_env};
+ghost use Rattle.pw_interp_direct.specs.Direct.{IsDirect, HasDirectPlace};
 ghost use Rattle.pw_interp_direct.specs.Operands.{operand_act};
 
 use pw_interp_acts::{advance, assigned, cast, old_value, put, update, used, value_at};
@@ -23,16 +24,16 @@ use pw_types::{BinaryOperator, CType, QType, StepOperator, UnaryOperator};
 use pw_value::Value;
 use std::alloc::Global;
 
-/// The result of an expression (ISO C90 6.3): None where it is void, or a function returned none. Of one that is not evaluated
-/// at once, want of memory says nothing.
+/// The result of an expression in which nothing is called or chosen (ISO C90 6.3): None where it is void.
 #[cycle(direct)]
-#[tactic(auto, unfolding(pw_typed::specs::Views::view_form), using(pw_typed::proofs::Rows::call_view, pw_typed::proofs::Rows::call_value_view))]
+#[tactic(auto, unfolding(pw_typed::specs::Views::view_form, crate::specs::Direct::IsDirect), using(pw_typed::proofs::Rows::call_view, pw_typed::proofs::Rows::call_value_view))]
 pub fn answer_of<'a>(
     alloc: Global,
     env: &Env<'a>,
     state: &mut State,
     e: &TExpr,
 ) -> Result<Option<Value>, Stop<'a>>
+    requires { IsDirect (view_expr e.now) }
     ensures { (bound : ℕ) → Evaluates (view_env env.now) bound (view_expr e.now) (view_state state.old) result (view_state state.new) }
 {
     let token = e.token;
@@ -52,20 +53,21 @@ pub fn answer_of<'a>(
         TForm::Address(a) => placed(alloc, env, state, a),
         TForm::Member(a, offset) => member(alloc, env, state, token, a, &e.ty, *offset),
         TForm::Deref(a) => through(alloc, env, state, token, a, &e.ty),
-        TForm::Logic(_, _, _) | TForm::Cond(_, _, _) | TForm::Comma(_, _) => Err(Stop::NoMemory),
-        TForm::Call(_, _) | TForm::CallValue(_, _) => Err(Stop::NoMemory),
+        TForm::Logic(_, _, _) | TForm::Cond(_, _, _) | TForm::Comma(_, _) => unreachable!(),
+        TForm::Call(_, _) | TForm::CallValue(_, _) => unreachable!(),
     }
 }
 
 /// The place that an lvalue denotes (ISO C90 6.2.2.1).
 #[cycle(direct)]
-#[tactic(auto, unfolding(pw_typed::specs::Views::view_form), using(pw_typed::proofs::Rows::call_view, pw_typed::proofs::Rows::call_value_view))]
+#[tactic(auto, unfolding(pw_typed::specs::Views::view_form, crate::specs::Direct::IsDirect), using(pw_typed::proofs::Rows::call_view, pw_typed::proofs::Rows::call_value_view))]
 fn place_of<'a>(
     alloc: Global,
     env: &Env<'a>,
     state: &mut State,
     e: &TExpr,
 ) -> Result<Value, Stop<'a>>
+    requires { HasDirectPlace (view_expr e.now) }
     ensures { (bound : ℕ) → Locates (view_env env.now) bound (view_expr e.now) (view_state state.old) result (view_state state.new) }
 {
     match &e.form {
@@ -75,7 +77,7 @@ fn place_of<'a>(
         TForm::Function(symbol) => function_place(alloc, env, symbol),
         TForm::Deref(a) => operand(alloc, env, state, e.token, a),
         TForm::Member(a, offset) => member_place(alloc, env, state, e.token, a, *offset),
-        _ => Err(Stop::NoMemory),
+        _ => unreachable!(),
     }
 }
 
@@ -88,6 +90,7 @@ fn operand<'a>(
     token: usize,
     a: &TExpr,
 ) -> Result<Value, Stop<'a>>
+    requires { IsDirect (view_expr a.now) }
     ensures answers { (bound : ℕ) → Answers (λ x. x) (view_env env.now).world (operand_act (view_expr a.now) token bound (view_env env.now)) (view_state state.old) result (view_state state.new) }
     ensures points { (bound : ℕ) (ty : types.QType) → Locates (view_env env.now) bound (tree.Node token ty (tree.Deref (view_expr a.now))) (view_state state.old) result (view_state state.new) }
 {
@@ -97,6 +100,7 @@ fn operand<'a>(
 
 /// A unary operator.
 #[cycle(direct)]
+#[inline(never)]
 fn unary<'a>(
     alloc: Global,
     env: &Env<'a>,
@@ -106,6 +110,7 @@ fn unary<'a>(
     ty: &QType,
     op: UnaryOperator,
 ) -> Result<Option<Value>, Stop<'a>>
+    requires { IsDirect (view_expr a.now) }
     ensures { (bound : ℕ) → Evaluates (view_env env.now) bound (tree.Node token (view_qtype ty.now) (tree.Unary op (view_expr a.now))) (view_state state.old) result (view_state state.new) }
 {
     let value = operand(alloc, env, state, token, a)?;
@@ -126,6 +131,8 @@ fn binary<'a>(
 ) -> Result<Option<Value>, Stop<'a>>
     requires first { size-TForm a.now.form < size-TForm e.now.form }
     requires second { size-TForm b.now.form < size-TForm e.now.form }
+    requires left { IsDirect (view_expr a.now) }
+    requires right { IsDirect (view_expr b.now) }
     ensures { (bound : ℕ) (ty : types.QType) → Evaluates (view_env env.now) bound (tree.Node e.now.token ty (tree.Binary op (view_expr a.now) (view_expr b.now))) (view_state state.old) result (view_state state.new) }
 {
     let left = operand(alloc, env, state, e.token, a)?;
@@ -147,6 +154,8 @@ fn assign<'a>(
 ) -> Result<Option<Value>, Stop<'a>>
     requires first { size-TForm a.now.form < size-TForm e.now.form }
     requires second { size-TForm b.now.form < size-TForm e.now.form }
+    requires place { HasDirectPlace (view_expr a.now) }
+    requires value { IsDirect (view_expr b.now) }
     ensures { (bound : ℕ) (ty : types.QType) → Evaluates (view_env env.now) bound (tree.Node e.now.token ty (tree.Assign (view_expr a.now) (view_expr b.now))) (view_state state.old) result (view_state state.new) }
 {
     let place = place_of(alloc, env, state, a)?;
@@ -159,6 +168,7 @@ fn assign<'a>(
 
 /// An operator with `=`, which works in a type. The old value is read before the right operand is evaluated.
 #[cycle(direct)]
+#[inline(never)]
 fn compound<'a>(
     alloc: Global,
     env: &Env<'a>,
@@ -171,6 +181,8 @@ fn compound<'a>(
 ) -> Result<Option<Value>, Stop<'a>>
     requires first { size-TForm a.now.form < size-TForm e.now.form }
     requires second { size-TForm b.now.form < size-TForm e.now.form }
+    requires place { HasDirectPlace (view_expr a.now) }
+    requires value { IsDirect (view_expr b.now) }
     ensures { (bound : ℕ) (ty : types.QType) → Evaluates (view_env env.now) bound (tree.Node e.now.token ty (tree.Compound op (view_type working.now) (view_expr a.now) (view_expr b.now))) (view_state state.old) result (view_state state.new) }
 {
     let place = place_of(alloc, env, state, a)?;
@@ -194,6 +206,7 @@ fn step<'a>(
     op: StepOperator,
     a: &TExpr,
 ) -> Result<Option<Value>, Stop<'a>>
+    requires { HasDirectPlace (view_expr a.now) }
     ensures { (bound : ℕ) (ty : types.QType) → Evaluates (view_env env.now) bound (tree.Node token ty (tree.Step op (view_expr a.now))) (view_state state.old) result (view_state state.new) }
 {
     let place = place_of(alloc, env, state, a)?;
@@ -211,6 +224,7 @@ fn converted<'a>(
     a: &TExpr,
     ty: &QType,
 ) -> Result<Option<Value>, Stop<'a>>
+    requires { IsDirect (view_expr a.now) }
     ensures { (bound : ℕ) → Evaluates (view_env env.now) bound (tree.Node token (view_qtype ty.now) (tree.Cast (view_expr a.now))) (view_state state.old) result (view_state state.new) }
 {
     let answer = answer_of(alloc, env, state, a)?;
@@ -225,6 +239,7 @@ fn placed<'a>(
     state: &mut State,
     a: &TExpr,
 ) -> Result<Option<Value>, Stop<'a>>
+    requires { HasDirectPlace (view_expr a.now) }
     ensures decays { (bound token : ℕ) (ty : types.QType) → Evaluates (view_env env.now) bound (tree.Node token ty (tree.Decay (view_expr a.now))) (view_state state.old) result (view_state state.new) }
     ensures addresses { (bound token : ℕ) (ty : types.QType) → Evaluates (view_env env.now) bound (tree.Node token ty (tree.Address (view_expr a.now))) (view_state state.old) result (view_state state.new) }
 {
@@ -234,6 +249,7 @@ fn placed<'a>(
 
 /// The place of a member.
 #[cycle(direct)]
+#[inline(never)]
 fn member_place<'a>(
     alloc: Global,
     env: &Env<'a>,
@@ -242,6 +258,7 @@ fn member_place<'a>(
     a: &TExpr,
     offset: u32,
 ) -> Result<Value, Stop<'a>>
+    requires { HasDirectPlace (view_expr a.now) }
     ensures { (bound : ℕ) (ty : types.QType) → Locates (view_env env.now) bound (tree.Node token ty (tree.Member (view_expr a.now) offset)) (view_state state.old) result (view_state state.new) }
 {
     let whole = place_of(alloc, env, state, a)?;
@@ -250,6 +267,7 @@ fn member_place<'a>(
 
 /// The value of a member.
 #[cycle(direct)]
+#[inline(never)]
 fn member<'a>(
     alloc: Global,
     env: &Env<'a>,
@@ -259,6 +277,7 @@ fn member<'a>(
     ty: &QType,
     offset: u32,
 ) -> Result<Option<Value>, Stop<'a>>
+    requires { HasDirectPlace (view_expr a.now) }
     ensures { (bound : ℕ) → Evaluates (view_env env.now) bound (tree.Node token (view_qtype ty.now) (tree.Member (view_expr a.now) offset)) (view_state state.old) result (view_state state.new) }
 {
     let place = member_place(alloc, env, state, token, a, offset)?;
@@ -275,6 +294,7 @@ fn through<'a>(
     a: &TExpr,
     ty: &QType,
 ) -> Result<Option<Value>, Stop<'a>>
+    requires { IsDirect (view_expr a.now) }
     ensures { (bound : ℕ) → Evaluates (view_env env.now) bound (tree.Node token (view_qtype ty.now) (tree.Deref (view_expr a.now))) (view_state state.old) result (view_state state.new) }
 {
     let place = operand(alloc, env, state, token, a)?;

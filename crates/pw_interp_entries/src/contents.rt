@@ -7,7 +7,7 @@ ghost use Rattle.pw_interp_entries.specs.Last.{view_last};
 
 use pw_typed::{Arm, Initialiser, TStmt, TStmtForm};
 
-/// The initialisers of a block.
+/// The initialisers of a block's own locals, in the order of the text (C90 6.6.2); of another statement none.
 #[tactic(auto, unfolding(pw_typed::specs::Views::view_stmt_form), using(pw_typed::proofs::Rows::block_view, pw_typed::proofs::Rows::if_view))]
 pub fn initialisers_in<'a>(s: &'a TStmt) -> &'a [Initialiser]
     ensures { view_initialisers result.now ≡ spec.initialisers_in (view_stmt s.now) }
@@ -29,7 +29,8 @@ pub fn members_in<'a>(s: &'a TStmt) -> &'a [TStmt]
     }
 }
 
-/// The arms of an `if`.
+/// The arms of an `if` with its `else if`s, in the order of the text, each a condition and a statement (C90 6.6.4.1);
+/// of another statement none.
 #[tactic(auto, unfolding(pw_typed::specs::Views::view_stmt_form), using(pw_typed::proofs::Rows::block_view, pw_typed::proofs::Rows::if_view))]
 pub fn arms_in<'a>(s: &'a TStmt) -> &'a [Arm]
     ensures { view_arms result.now ≡ spec.arms_in (view_stmt s.now) }

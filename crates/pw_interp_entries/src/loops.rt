@@ -114,7 +114,8 @@ fn test_some<'a>(s: &'a TStmt, c: &'a Option<TExpr>) -> Going<'a>
     }
 }
 
-/// A loop from its top.
+/// How a loop goes on at the beginning of a turn (C90 6.6.5): `while` and `for` ask for their condition, where they
+/// have one, `do` and a `for` without one enter the body, and what is no loop is left.
 pub fn top<'a>(s: &'a TStmt) -> Going<'a>
     ensures { Leaves (λ e n. loops.loop_act (view_stmt s.now) e (calls e.world n)) result }
 {

@@ -203,6 +203,7 @@ fn call_with<'a>(
 }
 
 /// All arguments of a call have their values: the function is called.
+#[inline(never)]
 pub fn call_listed<'a>(
     alloc: Global,
     machine: &mut Machine<'a>,
@@ -216,6 +217,7 @@ pub fn call_listed<'a>(
 }
 
 /// A call whose function has nothing left to do: its result goes to its caller, or ends the run.
+#[inline(never)]
 pub fn give_back<'a>(
     machine: &mut Machine<'a>,
     state: &mut State,

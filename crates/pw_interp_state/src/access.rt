@@ -137,6 +137,7 @@ fn load_bytes(objects: &Objects, category: Category, place: Value) -> Result<Val
 }
 
 /// The number that a byte at an offset is.
+#[inline(always)]
 fn number_at(bytes: &[Byte], offset: usize) -> Option<u8>
     ensures { IfSome result (λ n. byte_at bytes.now offset ≡ Byte.Num n) }
 {
@@ -148,6 +149,7 @@ fn number_at(bytes: &[Byte], offset: usize) -> Option<u8>
 
 /// The word that four numbers from an offset on are, the first of them worth most.
 #[tactic(auto, using(crate::proofs::WordLemmas::four_write))]
+#[inline(always)]
 fn word_at(bytes: &[Byte], offset: u32) -> Option<u32>
     ensures word { IfSome result (λ n. number_in (bytes_from 4 offset bytes.now) ≡ Some n) }
     ensures range { IfSome result (λ n. n < 2 ^ 32) }
@@ -163,6 +165,7 @@ fn word_at(bytes: &[Byte], offset: u32) -> Option<u32>
 
 /// The word that an integer of four bytes at an offset of an object is, where the read has a meaning.
 #[tactic(auto, using(crate::proofs::WordLemmas::word_loaded))]
+#[inline(always)]
 fn word_inside(objects: &Objects, kind: IntKind, number: u128, offset: u32) -> Option<u32>
     ensures { IfSome result (λ n. spec.loaded objects.now (Category.Int kind) (Value.At (Pointer.Object number offset)) ≡ Ok (Value.Num n)) }
 {
@@ -177,6 +180,7 @@ fn word_inside(objects: &Objects, kind: IntKind, number: u128, offset: u32) -> O
 }
 
 /// The word that an integer of four bytes at a place is, where the read has a meaning; None where the bytes are to tell.
+#[inline(always)]
 fn word_in(objects: &Objects, category: Category, place: Value) -> Option<u32>
     ensures { IfSome result (λ n. spec.loaded objects.now category place ≡ Ok (Value.Num n)) }
 {
@@ -189,6 +193,7 @@ fn word_in(objects: &Objects, category: Category, place: Value) -> Option<u32>
 }
 
 /// Reads a scalar of the category at a place.
+#[inline(always)]
 pub fn load(objects: &Objects, category: Category, place: Value) -> Result<Value, Fault>
     ensures { result ≡ spec.loaded objects.now category place }
 {
@@ -199,6 +204,7 @@ pub fn load(objects: &Objects, category: Category, place: Value) -> Result<Value
 }
 
 /// The value of an lvalue of the category: of what is no scalar its place (ISO C90 6.2.2.1).
+#[inline(always)]
 pub fn fetch(objects: &Objects, category: Category, place: Value) -> Result<Value, Fault>
     ensures { result ≡ spec.fetched objects.now category place }
 {

@@ -60,6 +60,16 @@ pub fn write_bytes(bytes: &mut [Byte], offset: u32, new: &[Byte])
     }
 }
 
+/// A number as the four bytes of a word, the first of them worth most.
+pub(crate) fn word_bytes(n: u32) -> [Byte; 4]
+    ensures { result ≡ encoding (Value.Num n) 4 }
+{
+    let high = Byte::Num((n / 16777216) as u8);
+    let second = Byte::Num((n / 65536 % 256) as u8);
+    let third = Byte::Num((n / 256 % 256) as u8);
+    [high, second, third, Byte::Num((n % 256) as u8)]
+}
+
 /// A value as the bytes that it takes in an object of so many bytes: 1, 2 or 4. They are the first so many of
 /// the four.
 pub fn encoded(value: Value, width: u8) -> ([Byte; 4], usize)

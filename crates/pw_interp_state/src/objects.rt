@@ -70,7 +70,7 @@ impl Objects {
         self.all.len()
     }
 
-    /// The bytes of an object.
+    /// The bytes of the object of a number, as many as its size; of a number that no object has, none.
     #[tactic(auto, using(crate::proofs::ObjectLemmas::short_at))]
     pub fn bytes(&self, number: u128) -> &[Byte]
         ensures bytes { result.now ≡ (object_at self.now number).bytes }

@@ -8,7 +8,7 @@ ghost use Rattle.pw_interp_state.specs.Categories.{view_purpose};
 ghost use Rattle.pw_interp_state.specs.Accesses as spec;
 
 use crate::access::access;
-use crate::bytes::{copied_from, encoded};
+use crate::bytes::{copied_from, encoded, word_bytes};
 use crate::category::{Category, Purpose};
 use crate::fault::{Fault, judge};
 use crate::findings::when;
@@ -70,8 +70,13 @@ pub fn store(
 {
     let width = category.width();
     judge(writing(purpose, objects, u32::from(width), u32::from(width), place))?;
-    let (bytes, count) = encoded(value, width);
-    write_at(objects, &bytes[..count], place)
+    match (value, width) {
+        (Value::Num(n), 4) => write_at(objects, &word_bytes(n), place),
+        _ => {
+            let (bytes, count) = encoded(value, width);
+            write_at(objects, &bytes[..count], place)
+        }
+    }
 }
 
 /// Whether two ranges of so many bytes share a byte and are not the same.

@@ -95,6 +95,7 @@ fn open_one<'a>(
 }
 
 /// A block, so many of whose locals have their objects: the next gets its own, or where all have theirs the inside comes.
+#[inline(never)]
 pub fn open_block<'a>(
     alloc: Global,
     call: &mut Call<'a>,
@@ -118,6 +119,7 @@ pub fn open_block<'a>(
 }
 
 /// The object of a local ends, and the local has what it had before.
+#[inline(never)]
 pub fn end_local<'a>(
     call: &mut Call<'a>,
     objects: &mut Objects,

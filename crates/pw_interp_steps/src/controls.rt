@@ -8,6 +8,7 @@ ghost use Rattle.pw_cmean.specs.Worlds as worlds;
 ghost use Rattle.pw_interp_state.specs.Shown.{Shown, view_state};
 ghost use Rattle.pw_interp_calls.specs.Answers.{Answers};
 ghost use Rattle.pw_interp_calls.specs.Views.{view_env};
+ghost use Rattle.pw_interp_direct.specs.Direct.{IsDirect};
 ghost use Rattle.pw_interp_todo.specs.Asking.{answered, asked_act};
 ghost use Rattle.pw_interp_todo.specs.Flows.{view_flow};
 ghost use Rattle.pw_interp_todo.specs.Going.{going_act, remainder_act, use_act};
@@ -39,7 +40,8 @@ use std::alloc::Global;
 /// How deep the nodes of an expression may stand that is evaluated in one step.
 const DIRECT_DEPTH: u32 = 12;
 
-/// What is asked.
+/// One step where a value or a place is asked: that of a small expression is there at once; else what is left of it goes onto
+/// the call's list of what is to be done. A stop tells why the run ends.
 pub fn ask_step<'a>(
     alloc: Global,
     call: &mut Call<'a>,
@@ -71,6 +73,7 @@ fn answer_step<'a>(
 }
 
 /// What is asked, of which what is evaluated first comes first.
+#[inline(never)]
 fn lead_step<'a>(
     alloc: Global,
     call: &mut Call<'a>,
@@ -95,6 +98,7 @@ fn locals_of(part: Part) -> Option<u32>
 }
 
 /// A part of a statement whose locals have their objects.
+#[inline(always)]
 fn begin_step<'a>(
     alloc: Global,
     call: &mut Call<'a>,
@@ -126,6 +130,7 @@ pub fn do_step<'a>(
 }
 
 /// An operand gave this.
+#[inline(never)]
 fn operand_step<'a>(
     alloc: Global,
     call: &mut Call<'a>,
@@ -141,6 +146,7 @@ fn operand_step<'a>(
 }
 
 /// An argument gave this: it is held, and those behind it follow.
+#[inline(never)]
 fn argument_step<'a>(
     call: &mut Call<'a>,
     args: &'a [TExpr],
@@ -155,6 +161,7 @@ fn argument_step<'a>(
 }
 
 /// The value of an expression of a statement.
+#[inline(always)]
 fn value_step<'a>(
     alloc: Global,
     call: &mut Call<'a>,
@@ -170,6 +177,7 @@ fn value_step<'a>(
 }
 
 /// The value of a small expression is evaluated at once, and the statement goes on with it.
+#[inline(always)]
 fn use_direct<'a>(
     alloc: Global,
     call: &mut Call<'a>,
@@ -178,6 +186,7 @@ fn use_direct<'a>(
     what: Use<'a>,
     bound: u64,
 ) -> Result<Control<'a>, Stop<'a>>
+    requires { IsDirect (view_expr e.now) }
     ensures { StepsCall call.old (λ rest. then_flowed (going_act (Going.Ask (Asked.Answer e.entry) what.entry) (view_env call.old.env) call.old.bound) rest (view_env call.old.env) bound) (view_state state.old) result call.new (view_state state.new) }
 {
     let given = answer_of(alloc, &call.env, state, e)?;
@@ -185,6 +194,7 @@ fn use_direct<'a>(
 }
 
 /// A statement asks for the value of an expression.
+#[inline(always)]
 fn use_answer<'a>(
     alloc: Global,
     call: &mut Call<'a>,
@@ -204,6 +214,7 @@ fn use_answer<'a>(
 }
 
 /// A statement asks for something of an expression.
+#[inline(always)]
 fn use_asked<'a>(
     alloc: Global,
     call: &mut Call<'a>,
@@ -224,6 +235,7 @@ fn use_asked<'a>(
 }
 
 /// What is left of a statement, behind which the run goes on with a bound.
+#[inline(always)]
 fn go_on<'a>(
     alloc: Global,
     call: &mut Call<'a>,
@@ -240,6 +252,7 @@ fn go_on<'a>(
 }
 
 /// A part of a statement left this.
+#[inline(always)]
 fn flow_step<'a>(
     alloc: Global,
     call: &mut Call<'a>,
@@ -334,6 +347,7 @@ pub fn flowed_step<'a>(
 }
 
 /// The arguments of a call that are left.
+#[inline(never)]
 pub fn arguments_step<'a>(
     call: &mut Call<'a>,
     args: &'a [TExpr],

@@ -34,6 +34,7 @@ pub fn push_next<'a>(todo: &mut Vec<Todo<'a>>, next: Next<'a>) -> Result<Control
 }
 
 /// A bound that is one smaller; a bound of 0 ends the run.
+#[inline(always)]
 pub fn lower<'a>(bound: u64) -> Result<u64, Stop<'a>>
     ensures lower { IfOk result (λ lower. bound ≡ lower + 1) }
     ensures none { IfErr result (λ stop. (bound ≡ 0) × (stop ≡ Stop.Ended Ending.Bound)) }
@@ -45,6 +46,7 @@ pub fn lower<'a>(bound: u64) -> Result<u64, Stop<'a>>
 }
 
 /// A part of a statement in its place, with the bound of now or with one that is one smaller.
+#[inline(always)]
 fn push_on<'a>(
     bound: &mut u64,
     turn: Turn,
@@ -67,6 +69,7 @@ fn push_on<'a>(
 
 /// What is left of a statement behind which the run goes on with the bound `after`: what is done now, with the bound of now, and
 /// what comes behind it goes on the list.
+#[inline(always)]
 pub fn push_going<'a>(
     todo: &mut Vec<Todo<'a>>,
     bound: &mut u64,

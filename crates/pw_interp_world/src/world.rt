@@ -63,7 +63,8 @@ impl<'a> World<'a> {
         self.functions.position(name)
     }
 
-    /// The place of the function of a number.
+    /// The place, in the list of the program's functions, of the one that a pointer's number stands for, or None
+    /// where no function has it.
     pub fn place_numbered(&self, number: u32) -> Option<usize>
         ensures { option_and_then (slice_get (worlds.functions_of (view_program self.now.parts.now))) result ≡ worlds.function_at (view_program self.now.parts.now) number }
     {

@@ -2,20 +2,23 @@
 use Rattle.std.specs.Prelude.{◌*◌, List, [], ◌∷◌, length}
 use Rattle.std.proofs.Common.{refl, inl, inr}
 use Rattle.std.proofs.lemmas.Bool.{cases_lt}
+use Rattle.pw_flow.specs.declared.flow.Op.{Op}
 use Rattle.pw_flow.specs.declared.flow.FlowFn.{FlowFn}
 use Rattle.pw_flow.specs.declared.flow.FlowModule.{FlowModule}
+use Rattle.pw_opt_rules.specs.declared.flat.Flat.{Flat}
+use Rattle.pw_opt_rules.specs.Rows.{IsLeastSolution}
 use Rattle.pw_opt_rules.specs.Rewriting.{Rewriting, rewritten_blocks, with_blocks, IsRewritten}
 use Rattle.pw_opt_rules.specs.Constants.{constant_transfer, constants}
 use Rattle.pw_opt_rules.specs.Copies.{copy_transfer, copies}
 use Rattle.pw_opt_rules.specs.Dead.{without_dead}
 use Rattle.pw_opt_rules.specs.Optimised.{optimise_limit, IsOptimised, stays, steps, AreOptimised, none, also, IsOptimisedModule}
 use Rattle.pw_opt_order.specs.Rises.{Rises}
-use Rattle.pw_law_opt_answers.proofs.Solving.{least_exists}
 
-rewritten : (w : Rewriting) → Rises w.transfer → (f : FlowFn) → (g : FlowFn) × IsRewritten w f g
-rewritten w r f = let s = least_exists w.transfer r f in (with_blocks f (rewritten_blocks w s.0 f.blocks), record { rows = s.0; known = s.1; is = refl })
+module _ (least : (transfer : List Flat → Op → List Flat) → Rises transfer → (f : FlowFn) → (rows : List (List Flat)) × IsLeastSolution transfer f rows) (words : Rises constant_transfer)
+    (temps : Rises copy_transfer) where
+  rewritten : (w : Rewriting) → Rises w.transfer → (f : FlowFn) → (g : FlowFn) × IsRewritten w f g
+  rewritten w r f = let s = least w.transfer r f in (with_blocks f (rewritten_blocks w s.0 f.blocks), record { rows = s.0; known = s.1; is = refl })
 
-module _ (words : Rises constant_transfer) (temps : Rises copy_transfer) where
   function_form : (m : FlowModule) (f : FlowFn) → (g : FlowFn) × IsOptimised m f g
   function_form m f = elim (cases_lt optimise_limit (f.temps * length f.blocks)) [
     | inl large ↦ (f, stays large)

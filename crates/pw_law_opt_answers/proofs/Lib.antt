@@ -1,2 +1,1 @@
-mod Solving
 mod Forming

@@ -64,7 +64,7 @@ pub fn returns_follow()
     ensures { ReturnsFollow }
 {}
 
-/// The starts are alike.
+/// Where a sound database is obeyed and places serve each function, both runs begin in states that are alike.
 pub fn starts_follow()
     ensures { StartsFollow }
 {}

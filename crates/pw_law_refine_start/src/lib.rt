@@ -59,7 +59,8 @@ pub fn runs_begin_in_start()
         start (graphs world) input ≡ On (start_machine (graphs world) input) }
 {}
 
-/// `main` takes nothing.
+/// In a program that can be lowered the shape of `main` fits a call without arguments, which is how a run begins (C90
+/// 5.1.2.2.1).
 pub fn main_takes_nothing()
     ensures { (world : World) (main : Callable) → IsLowerableWorld world → function_named world.program main_name ≡ Some main →
         FitShape main.shape [] }

@@ -1,6 +1,6 @@
 -- What a module shows by its flow graph, by its summary and by its object.
 use Rattle.std.proofs.Common.{◌≡◌, ◌⊎◌, ℕ, Bool, if◌then◌else◌, List, [], ◌∷◌, ◌++◌, map, refl, sym, ap, subst, ◌∙◌, inl, inr}
-use Rattle.std.specs.Prelude.{Some, None}
+use Rattle.std.specs.Prelude.{Some, None, Contains}
 use Rattle.std.specs.List.{AllByRecursion, flat_map}
 use Rattle.std.specs.Map.{lookup}
 use Rattle.std.specs.Str.{bytes_eq}
@@ -29,7 +29,7 @@ use Rattle.pw_phase_two.proofs.ObjectLaws.{compiled_names as names_compiled}
 use Rattle.pw_link_rules.specs.Linking.{names_in}
 use Rattle.pw_link_interface.specs.Interface.{names_of_fixes, main_of, interface}
 use Rattle.pw_graph.specs.Program.{main_in, interface_of}
-use Rattle.pw_law_shown.specs.Alike.{shown, DeclaresMain, globals_of, IsObjectIn}
+use Rattle.pw_law_shown.specs.Alike.{shown, DeclaresMain, globals_of, IsObjectIn, ShowsModule, named_by}
 use Rattle.pw_law_shown.proofs.Names.{same_count, rising_distinct, both_distinct, across_distinct}
 use Rattle.pw_law_shown.proofs.Mains.{main_found, main_lacks, lookup_found, any_found, any_lacks}
 use Rattle.pw_law_shown.proofs.CodeNames.{compiled_names}
@@ -157,43 +157,39 @@ module _ (m : FlowModule) (s : Summary) (valid : IsValid m) (of : Summarises m s
 
   -- ---- and what an object of the module has
 
-  module _ (program : List FlowModule) (declares : DeclaresMain m) (o : Object) (is : IsObjectIn program m o) where
-    functions_are : object.function_names o ≡ function_names m
-    functions_are = ap (map (λ (f : ObjectFn). f.name)) is.made.functions ∙ names_compiled m.functions is.directives is.of_module.functions
-
-    globals_are : object.global_names o ≡ global_names m
-    globals_are = ap (map (λ (g : FlowGlobal). g.name)) is.made.globals
-
+  module _ (program : List FlowModule) (declares : DeclaresMain m) (o : Object) (is : ShowsModule program m s o) where
     declared_are : s.declared ≡ o.declared
-    declared_are = one_ordered (λ d. d.0) m.declared s.declared o.declared of.declared is.made.declared
+    declared_are = sym is.declared
 
     used_are : s.used ≡ o.used
-    used_are = one_ordered (λ name. name) (named_in m) s.used o.used of.used is.made.used
+    used_are = sym is.used
 
     names_forth : (n : List ℕ) → Has n (names_in (interface_of s)) → Has n (names_in (interface o))
     names_forth n h = elim (has_split n (map (λ f. f.0) s.functions) (map (λ g. g.0) s.globals) h) [
-      | inl k ↦ has_left n (object.function_names o) (object.global_names o) (subst (λ (ns : List (List ℕ)). Has n ns) (sym functions_are) (functions_forth n k))
-      | inr k ↦ has_right n (object.function_names o) (object.global_names o) (subst (λ (ns : List (List ℕ)). Has n ns) (sym globals_are) (globals_forth n k))
+      | inl k ↦ has_left n (object.function_names o) (object.global_names o) (subst (λ (ns : List (List ℕ)). Has n ns) (sym is.functions) (functions_forth n k))
+      | inr k ↦ has_right n (object.function_names o) (object.global_names o) (subst (λ (ns : List (List ℕ)). Has n ns) (sym is.globals) (globals_forth n k))
     ]
 
     names_back : (n : List ℕ) → Has n (names_in (interface o)) → Has n (names_in (interface_of s))
     names_back n h = elim (has_split n (object.function_names o) (object.global_names o) h) [
-      | inl k ↦ has_left n (map (λ f. f.0) s.functions) (map (λ g. g.0) s.globals) (functions_back n (subst (λ (ns : List (List ℕ)). Has n ns) functions_are k))
-      | inr k ↦ has_right n (map (λ f. f.0) s.functions) (map (λ g. g.0) s.globals) (globals_back n (subst (λ (ns : List (List ℕ)). Has n ns) globals_are k))
+      | inl k ↦ has_left n (map (λ f. f.0) s.functions) (map (λ g. g.0) s.globals) (functions_back n (subst (λ (ns : List (List ℕ)). Has n ns) is.functions k))
+      | inr k ↦ has_right n (map (λ f. f.0) s.functions) (map (λ g. g.0) s.globals) (globals_back n (subst (λ (ns : List (List ℕ)). Has n ns) is.globals k))
     ]
 
     object_once : AreDistinct (object.function_names o ++ object.global_names o)
     object_once =
-        subst (λ (fs : List (List ℕ)). AreDistinct (fs ++ object.global_names o)) (sym functions_are)
-        (subst (λ (gs : List (List ℕ)). AreDistinct (function_names m ++ gs)) (sym globals_are) (both_distinct (function_names m) (global_names m) functions_once globals_once apart))
+        subst (λ (fs : List (List ℕ)). AreDistinct (fs ++ object.global_names o)) (sym is.functions)
+        (subst (λ (gs : List (List ℕ)). AreDistinct (function_names m ++ gs)) (sym is.globals) (both_distinct (function_names m) (global_names m) functions_once globals_once apart))
 
     -- ---- `main`
 
     main_there : (f : FlowFn) → Has f m.functions → f.name ≡ main_name → main_in s.functions ≡ main_of o
     main_there f h e =
-        let declared : Has (main_name, f.shape) o.declared = has_by (main_name, f.shape) o.declared ((is.made.declared.of (main_name, f.shape)).1 (declares f (contains_by f m.functions h) e)) in
-        let two : lookup (bytes_eq main_name) o.declared ≡ Some f.shape = lookup_found main_name o.declared f.shape (rising_distinct (map (λ d. d.0) o.declared) is.made.declared.rising) declared in
-        let names : Has main_name (object.function_names o) = subst (λ (ns : List (List ℕ)). Has main_name ns) (sym functions_are) (subst (λ (n : List ℕ). Has n (function_names m)) e (has_map (λ (f : FlowFn). f.name) f m.functions h)) in
+        let listed : Has (main_name, f.shape) s.declared = has_by (main_name, f.shape) s.declared ((of.declared.of (main_name, f.shape)).1 (declares f (contains_by f m.functions h) e)) in
+        let once : AreDistinct (map (λ d. d.0) s.declared) = rising_distinct (map (λ d. d.0) s.declared) of.declared.rising in
+        let one : lookup (bytes_eq main_name) s.declared ≡ Some f.shape = lookup_found main_name s.declared f.shape once listed in
+        let two : lookup (bytes_eq main_name) o.declared ≡ Some f.shape = ap (λ (ds : List (List ℕ × List ℕ)). lookup (bytes_eq main_name) ds) is.declared ∙ one in
+        let names : Has main_name (object.function_names o) = subst (λ (ns : List (List ℕ)). Has main_name ns) (sym is.functions) (subst (λ (n : List ℕ). Has n (function_names m)) e (has_map (λ (f : FlowFn). f.name) f m.functions h)) in
         let tested : main_of o ≡ lookup (bytes_eq main_name) o.declared = ap (λ (b : Bool). if b then lookup (bytes_eq main_name) o.declared else None) (any_found main_name (object.function_names o) names) in
         main_listed f h e ∙ sym (tested ∙ two)
 
@@ -201,21 +197,21 @@ module _ (m : FlowModule) (s : Summary) (valid : IsValid m) (of : Summarises m s
     main_same = elim (stands_or_not main_name (function_names m)) [
       | inl h ↦ let f = has_map_back (λ (f : FlowFn). f.name) main_name m.functions h in main_there f.0 f.1 f.2
       | inr lacks ↦
-          let test = any_lacks main_name (object.function_names o) (λ h. lacks (subst (λ (ns : List (List ℕ)). Has main_name ns) functions_are h)) in
+          let test = any_lacks main_name (object.function_names o) (λ h. lacks (subst (λ (ns : List (List ℕ)). Has main_name ns) is.functions h)) in
           main_unlisted lacks ∙ sym (ap (λ (b : Bool). if b then lookup (bytes_eq main_name) o.declared else None) test)
     ]
 
     pub alike : Alike (interface_of s) (interface o)
     alike = record {
-      home = of.of_module ∙ sym is.made.of_module;
+      home = of.of_module ∙ sym is.home;
       functions =
-          same_count (map (λ f. f.0) s.functions) (object.function_names o) listed_functions_once (subst AreDistinct (sym functions_are) functions_once)
-          (λ n h. subst (λ (ns : List (List ℕ)). Has n ns) (sym functions_are) (functions_forth n h))
-          (λ n h. functions_back n (subst (λ (ns : List (List ℕ)). Has n ns) functions_are h));
+          same_count (map (λ f. f.0) s.functions) (object.function_names o) listed_functions_once (subst AreDistinct (sym is.functions) functions_once)
+          (λ n h. subst (λ (ns : List (List ℕ)). Has n ns) (sym is.functions) (functions_forth n h))
+          (λ n h. functions_back n (subst (λ (ns : List (List ℕ)). Has n ns) is.functions h));
       globals =
-          same_count (map (λ g. g.0) s.globals) (object.global_names o) (rising_distinct (map (λ g. g.0) s.globals) of.globals.rising) (subst AreDistinct (sym globals_are) globals_once)
-          (λ n h. subst (λ (ns : List (List ℕ)). Has n ns) (sym globals_are) (globals_forth n h))
-          (λ n h. globals_back n (subst (λ (ns : List (List ℕ)). Has n ns) globals_are h));
+          same_count (map (λ g. g.0) s.globals) (object.global_names o) (rising_distinct (map (λ g. g.0) s.globals) of.globals.rising) (subst AreDistinct (sym is.globals) globals_once)
+          (λ n h. subst (λ (ns : List (List ℕ)). Has n ns) (sym is.globals) (globals_forth n h))
+          (λ n h. globals_back n (subst (λ (ns : List (List ℕ)). Has n ns) is.globals h));
       defines = names_forth;
       defined = names_back;
       once = listed_once;
@@ -227,23 +223,11 @@ module _ (m : FlowModule) (s : Summary) (valid : IsValid m) (of : Summarises m s
 
     -- ---- what they use
 
-    -- what a module's graph names, or the globals of webs
-    abbrev IsKnown : List ℕ → Type 0
-    IsKnown n = Has n s.used ⊎ Has n (globals_of program)
-
-    listed : (n : List ℕ) → Has n (named_in m) → Has n s.used
-    listed n h = has_by n s.used ((of.used.of n).1 (contains_by n (named_in m) h))
-
-    in_globals : (n : List ℕ) → Has n (flat_map names_in_global o.globals) → Has n s.used
-    in_globals n h =
-        listed n (has_left n (flat_map names_in_global m.globals) (flat_map names_in_function m.functions) (subst (λ (gs : List FlowGlobal). Has n (flat_map names_in_global gs)) is.made.globals h))
-
-    in_code : (n : List ℕ) → Has n (flat_map names_of_fixes o.functions) → IsKnown n
-    in_code n h =
-        used_in_code IsKnown m.functions is.directives
-        (λ n h. inl (listed n (has_right n (flat_map names_in_global m.globals) (flat_map names_in_function m.functions) h)))
-        (webs_known IsKnown is.directives (λ w k. inr (has_by w.global (globals_of program) (is.webs w (contains_by w (all_webs is.directives) k)))))
-        n (subst (λ (fs : List ObjectFn). Has n (flat_map names_of_fixes fs)) is.made.functions h)
+    named_besides : (n : List ℕ) → Has n (named_by o) → Has n s.used ⊎ Has n (globals_of program)
+    named_besides n h = elim (is.named n (contains_by n (named_by o) h)) [
+      | inl k ↦ inl (has_by n s.used k)
+      | inr k ↦ inr (has_by n (globals_of program) k)
+    ]
 
     pub uses_alike : UsesAlike (globals_of program) (interface_of s) (interface o)
     uses_alike =
@@ -253,9 +237,43 @@ module _ (m : FlowModule) (s : Summary) (valid : IsValid m) (of : Summarises m s
           uses = λ n h. has_left n (o.used ++ items) code (has_left n o.used items (subst (λ (ns : List (List ℕ)). Has n ns) used_are h));
           used = λ n h. elim (has_split n (o.used ++ items) code h) [
             | inl k ↦ elim (has_split n o.used items k) [
-              | inl j ↦ inl (subst (λ (ns : List (List ℕ)). Has n ns) (sym used_are) j)
-              | inr j ↦ inl (in_globals n j)
+              | inl j ↦ inl (subst (λ (ns : List (List ℕ)). Has n ns) is.used j)
+              | inr j ↦ named_besides n (has_left n items code j)
             ]
-            | inr k ↦ in_code n k
+            | inr k ↦ named_besides n (has_right n items code k)
           ];
         }
+
+  -- ---- an object that the second phase made
+
+  module _ (program : List FlowModule) (o : Object) (is : IsObjectIn program m o) where
+    -- what a module's graph names, or the globals of webs
+    abbrev IsKnown : List ℕ → Type 0
+    IsKnown n = Contains s.used n ⊎ Contains (globals_of program) n
+
+    listed : (n : List ℕ) → Has n (named_in m) → Contains s.used n
+    listed n h = (of.used.of n).1 (contains_by n (named_in m) h)
+
+    in_globals : (n : List ℕ) → Has n (flat_map names_in_global o.globals) → Contains s.used n
+    in_globals n h =
+        listed n (has_left n (flat_map names_in_global m.globals) (flat_map names_in_function m.functions) (subst (λ (gs : List FlowGlobal). Has n (flat_map names_in_global gs)) is.made.globals h))
+
+    in_code : (n : List ℕ) → Has n (flat_map names_of_fixes o.functions) → IsKnown n
+    in_code n h =
+        used_in_code IsKnown m.functions is.directives
+        (λ n h. inl (listed n (has_right n (flat_map names_in_global m.globals) (flat_map names_in_function m.functions) h)))
+        (webs_known IsKnown is.directives (λ w k. inr (is.webs w (contains_by w (all_webs is.directives) k))))
+        n (subst (λ (fs : List ObjectFn). Has n (flat_map names_of_fixes fs)) is.made.functions h)
+
+    pub shows_module : ShowsModule program m s o
+    shows_module = record {
+      home = is.made.of_module;
+      functions = ap (map (λ (f : ObjectFn). f.name)) is.made.functions ∙ names_compiled m.functions is.directives is.of_module.functions;
+      globals = ap (map (λ (g : FlowGlobal). g.name)) is.made.globals;
+      declared = sym (one_ordered (λ d. d.0) m.declared s.declared o.declared of.declared is.made.declared);
+      used = sym (one_ordered (λ name. name) (named_in m) s.used o.used of.used is.made.used);
+      named = λ n h. elim (has_split n (flat_map names_in_global o.globals) (flat_map names_of_fixes o.functions) (has_by n (named_by o) h)) [
+        | inl k ↦ inl (in_globals n k)
+        | inr k ↦ in_code n k
+      ];
+    }

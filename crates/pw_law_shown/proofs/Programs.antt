@@ -12,8 +12,8 @@ use Rattle.pw_object.specs.declared.object.Object.{Object}
 use Rattle.pw_link_rules.specs.Linking.{library, names_in, Links, Refusal}
 use Rattle.pw_link_interface.specs.Interface.{interface}
 use Rattle.pw_graph.specs.Program.{interface_of}
-use Rattle.pw_law_shown.specs.Alike.{shown, AreSummariesOf, DeclaresMain, globals_of, AreObjectsIn}
-use Rattle.pw_law_shown.proofs.Modules.{alike, uses_alike, globals_back, shown_alike, shown_uses}
+use Rattle.pw_law_shown.specs.Alike.{shown, AreSummariesOf, DeclaresMain, globals_of, AreObjectsIn, ShowModules}
+use Rattle.pw_law_shown.proofs.Modules.{alike, uses_alike, shows_module, globals_back, shown_alike, shown_uses}
 use Rattle.pw_law_shown.proofs.Tests.{Alike, UsesAlike, Each, Same, same, turned, links, refused}
 
 -- ---- flow graphs and summaries, module by module
@@ -50,25 +50,34 @@ shown_refused flows ss valid sums fault =
 
 -- ---- summaries and objects, module by module
 
-all_alike : (program flows : List FlowModule) (ss : List Summary) (os : List Object) → AllByRecursion IsValid flows → AllByRecursion DeclaresMain flows → AreSummariesOf flows ss → AreObjectsIn program flows os
-    → Each Alike (map interface_of ss) (map interface os)
-all_alike program [] [] [] valid declares sums objects = tt
-all_alike program [] [] (o ∷ os) valid declares sums objects = absurd objects
-all_alike program [] (s ∷ ss) os valid declares sums objects = absurd sums
-all_alike program (m ∷ ms) [] os valid declares sums objects = absurd sums
-all_alike program (m ∷ ms) (s ∷ ss) [] valid declares sums objects = absurd objects
-all_alike program (m ∷ ms) (s ∷ ss) (o ∷ os) valid declares sums objects =
-    (alike m s valid.0 sums.0 program declares.0 o objects.0, all_alike program ms ss os valid.1 declares.1 sums.1 objects.1)
+-- objects that the second phase made show what their modules do
+all_show : (program flows : List FlowModule) (ss : List Summary) (os : List Object) → AllByRecursion IsValid flows → AreSummariesOf flows ss → AreObjectsIn program flows os → ShowModules program flows ss os
+all_show program [] [] [] valid sums objects = tt
+all_show program [] [] (o ∷ os) valid sums objects = absurd objects
+all_show program [] (s ∷ ss) os valid sums objects = absurd sums
+all_show program (m ∷ ms) [] os valid sums objects = absurd sums
+all_show program (m ∷ ms) (s ∷ ss) [] valid sums objects = absurd objects
+all_show program (m ∷ ms) (s ∷ ss) (o ∷ os) valid sums objects = (shows_module m s valid.0 sums.0 program o objects.0, all_show program ms ss os valid.1 sums.1 objects.1)
 
-all_use_alike : (program flows : List FlowModule) (ss : List Summary) (os : List Object) → AllByRecursion IsValid flows → AllByRecursion DeclaresMain flows → AreSummariesOf flows ss → AreObjectsIn program flows os
+all_alike : (program flows : List FlowModule) (ss : List Summary) (os : List Object) → AllByRecursion IsValid flows → AllByRecursion DeclaresMain flows → AreSummariesOf flows ss → ShowModules program flows ss os
+    → Each Alike (map interface_of ss) (map interface os)
+all_alike program [] [] [] valid declares sums told = tt
+all_alike program [] [] (o ∷ os) valid declares sums told = absurd told
+all_alike program [] (s ∷ ss) os valid declares sums told = absurd sums
+all_alike program (m ∷ ms) [] os valid declares sums told = absurd sums
+all_alike program (m ∷ ms) (s ∷ ss) [] valid declares sums told = absurd told
+all_alike program (m ∷ ms) (s ∷ ss) (o ∷ os) valid declares sums told =
+    (alike m s valid.0 sums.0 program declares.0 o told.0, all_alike program ms ss os valid.1 declares.1 sums.1 told.1)
+
+all_use_alike : (program flows : List FlowModule) (ss : List Summary) (os : List Object) → AllByRecursion IsValid flows → AllByRecursion DeclaresMain flows → AreSummariesOf flows ss → ShowModules program flows ss os
     → Each (UsesAlike (globals_of program)) (map interface_of ss) (map interface os)
-all_use_alike program [] [] [] valid declares sums objects = tt
-all_use_alike program [] [] (o ∷ os) valid declares sums objects = absurd objects
-all_use_alike program [] (s ∷ ss) os valid declares sums objects = absurd sums
-all_use_alike program (m ∷ ms) [] os valid declares sums objects = absurd sums
-all_use_alike program (m ∷ ms) (s ∷ ss) [] valid declares sums objects = absurd objects
-all_use_alike program (m ∷ ms) (s ∷ ss) (o ∷ os) valid declares sums objects =
-    (uses_alike m s valid.0 sums.0 program declares.0 o objects.0, all_use_alike program ms ss os valid.1 declares.1 sums.1 objects.1)
+all_use_alike program [] [] [] valid declares sums told = tt
+all_use_alike program [] [] (o ∷ os) valid declares sums told = absurd told
+all_use_alike program [] (s ∷ ss) os valid declares sums told = absurd sums
+all_use_alike program (m ∷ ms) [] os valid declares sums told = absurd sums
+all_use_alike program (m ∷ ms) (s ∷ ss) [] valid declares sums told = absurd told
+all_use_alike program (m ∷ ms) (s ∷ ss) (o ∷ os) valid declares sums told =
+    (uses_alike m s valid.0 sums.0 program declares.0 o told.0, all_use_alike program ms ss os valid.1 declares.1 sums.1 told.1)
 
 -- ---- the globals of the program are defined
 
@@ -87,24 +96,28 @@ globals_in (m ∷ ms) (s ∷ ss) valid sums n h =
 
 -- ---- the tests
 
-pub same_program : (flows : List FlowModule) (ss : List Summary) (os : List Object) → AllByRecursion IsValid flows → AllByRecursion DeclaresMain flows → AreSummariesOf flows ss → AreObjectsIn flows flows os
+same_by : (flows : List FlowModule) (ss : List Summary) (os : List Object) → AllByRecursion IsValid flows → AllByRecursion DeclaresMain flows → AreSummariesOf flows ss → ShowModules flows flows ss os
     → Same (map interface_of ss) (map interface os)
-same_program flows ss os valid declares sums objects =
-    same (globals_of flows) (map interface_of ss) (map interface os) (all_alike flows flows ss os valid declares sums objects) (all_use_alike flows flows ss os valid declares sums objects)
+same_by flows ss os valid declares sums told =
+    same (globals_of flows) (map interface_of ss) (map interface os) (all_alike flows flows ss os valid declares sums told) (all_use_alike flows flows ss os valid declares sums told)
     (λ n h. has_right n (names_in library) (flat_map names_in (map interface_of ss)) (globals_in flows ss valid sums n h))
+
+pub linked_by : (flows : List FlowModule) (ss : List Summary) (os : List Object) → AllByRecursion IsValid flows → AllByRecursion DeclaresMain flows → AreSummariesOf flows ss → ShowModules flows flows ss os
+    → (Links (map interface_of ss) → Links (map interface os)) × (Links (map interface os) → Links (map interface_of ss))
+linked_by flows ss os valid declares sums told =
+    let is = map interface_of ss in
+    let js = map interface os in
+    let both = same_by flows ss os valid declares sums told in
+    (λ l. links is js both l, λ l. links js is (turned is js both) l)
 
 pub linked_alike : (flows : List FlowModule) (ss : List Summary) (os : List Object) → AllByRecursion IsValid flows → AllByRecursion DeclaresMain flows → AreSummariesOf flows ss → AreObjectsIn flows flows os
     → (Links (map interface_of ss) → Links (map interface os)) × (Links (map interface os) → Links (map interface_of ss))
-linked_alike flows ss os valid declares sums objects =
-    let is = map interface_of ss in
-    let js = map interface os in
-    let both = same_program flows ss os valid declares sums objects in
-    (λ l. links is js both l, λ l. links js is (turned is js both) l)
+linked_alike flows ss os valid declares sums objects = linked_by flows ss os valid declares sums (all_show flows flows ss os valid sums objects)
 
 pub refused_alike : (flows : List FlowModule) (ss : List Summary) (os : List Object) → AllByRecursion IsValid flows → AllByRecursion DeclaresMain flows → AreSummariesOf flows ss → AreObjectsIn flows flows os → (fault : LinkFault)
     → (Refusal (map interface_of ss) fault → Refusal (map interface os) fault) × (Refusal (map interface os) fault → Refusal (map interface_of ss) fault)
 refused_alike flows ss os valid declares sums objects fault =
     let is = map interface_of ss in
     let js = map interface os in
-    let both = same_program flows ss os valid declares sums objects in
+    let both = same_by flows ss os valid declares sums (all_show flows flows ss os valid sums objects) in
     (λ r. refused is js both fault r, λ r. refused js is (turned is js both) fault r)

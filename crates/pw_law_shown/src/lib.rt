@@ -4,5 +4,6 @@
 mod linking;
 
 pub use linking::{
-    flow_graphs_and_summaries_are_refused_alike, summaries_and_objects_are_refused_alike,
+    flow_graphs_and_summaries_are_refused_alike, objects_show_their_modules,
+    summaries_and_objects_are_refused_alike,
 };

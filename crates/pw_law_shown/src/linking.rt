@@ -10,7 +10,8 @@ ghost use Rattle.pw_object.specs.declared.object.Object.{Object};
 ghost use Rattle.pw_link_rules.specs.Linking.{Links, Refusal};
 ghost use Rattle.pw_link_interface.specs.Interface.{interface};
 ghost use Rattle.pw_graph.specs.Program.{AreLinked, AreRefused};
-ghost use Rattle.pw_law_shown.specs.Alike.{AreObjectsIn, AreSummariesOf, DeclaresMain, shown};
+ghost use Rattle.pw_summarise.specs.Summarises.{Summarises};
+ghost use Rattle.pw_law_shown.specs.Alike.{AreObjectsIn, AreSummariesOf, DeclaresMain, IsObjectIn, ShowModules, ShowsModule, shown};
 
 /// Modules are refused alike by their lawful flow graphs and by their summaries: the linking tests over the ones and those over
 /// the others come to one answer, and to one fault.
@@ -33,4 +34,14 @@ pub fn summaries_and_objects_are_refused_alike()
     ensures refused { (flows : List FlowModule) (ss : List Summary) (objects : List Object) (fault : LinkFault) →
         AllByRecursion IsValid flows → AllByRecursion DeclaresMain flows → AreSummariesOf flows ss → AreObjectsIn flows flows objects →
         AreRefused ss fault ↔ Refusal (map interface objects) fault }
+{}
+
+/// An object that the second phase made shows what its module does; and where each object shows what its module does, whoever
+/// made it, modules are refused alike by their summaries and by their objects.
+pub fn objects_show_their_modules()
+    ensures made { (program : List FlowModule) (flow : FlowModule) (s : Summary) (o : Object) →
+        IsValid flow → Summarises flow s → IsObjectIn program flow o → ShowsModule program flow s o }
+    ensures linked { (flows : List FlowModule) (ss : List Summary) (objects : List Object) →
+        AllByRecursion IsValid flows → AllByRecursion DeclaresMain flows → AreSummariesOf flows ss → ShowModules flows flows ss objects →
+        AreLinked ss ↔ Links (map interface objects) }
 {}

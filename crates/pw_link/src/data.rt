@@ -1,6 +1,6 @@
 //! The global objects of a linked program, and where they stand.
 
-ghost use Rattle.std.specs.Prelude.{◌≡◌, ◌++◌, ◌+◌, ◌≤◌, map, IfOk, OnOk};
+ghost use Rattle.std.specs.Prelude.{◌≡◌, ◌+◌, ◌≤◌, map, IfOk};
 ghost use Rattle.std.specs.List.{flat_map, sum_by};
 ghost use Rattle.pw_value.specs.Caps.{capped};
 ghost use Rattle.pw_value.specs.Limits.{memory_size};
@@ -8,7 +8,7 @@ ghost use Rattle.pw_link.specs.Layout.{standing_from};
 ghost use Rattle.pw_flow.specs.ValidFlow.{global_room};
 ghost use Rattle.pw_link.specs.Views.{standing_view};
 
-use pw_flow::FlowGlobal;
+use pw_flow::{FlowGlobal, add_globals};
 use pw_link_interface::Object;
 use pw_value::slot_room;
 use std::alloc::{AllocError, Global};
@@ -25,19 +25,6 @@ fn global_room(global: &FlowGlobal) -> u64
     ensures { result ≡ global_room global.now }
 {
     slot_room(global.size)
-}
-
-/// Adds the objects of a module.
-fn add_globals<'a>(
-    all: &mut Vec<&'a FlowGlobal>,
-    globals: &'a [FlowGlobal],
-) -> Result<(), AllocError>
-    ensures { OnOk result (map (λ g. g.now) all.new.items ≡ map (λ g. g.now) all.old.items ++ globals.now) }
-{
-    for each in globals {
-        all.push(each)?;
-    }
-    Ok(())
 }
 
 /// The objects of the modules.

@@ -114,20 +114,30 @@ impl Fronts {
         }
     }
 
+    /// Makes a list that of the temporaries that are live at the front of a block.
+    pub fn collect_live(&self, live: &mut Vec<u32>, block: usize) -> Result<(), NoMemory>
+        requires block { block < vec_len self.now.rows }
+        ensures { OnOk result ((t : ℕ) → Contains live.new.items t ↔ IsLiveAt self.now block t) }
+    {
+        live.clear();
+        let place = self.rows.len() - 1 - block;
+        let row = &self.rows[place];
+        let _len = row.len;
+        let mut at = 0;
+        while let Some(i) = row.next_from(at) {
+            push_named(live, &self.exposed, i)?;
+            at = i + 1;
+        }
+        Ok(())
+    }
+
     /// The temporaries that are live at the front of a block.
     pub fn live(&self, alloc: Global, block: usize) -> Result<Vec<u32>, NoMemory>
         requires block { block < vec_len self.now.rows }
         ensures { IfOk result (λ v. (t : ℕ) → Contains v.items t ↔ IsLiveAt self.now block t) }
     {
-        let place = self.rows.len() - 1 - block;
-        let row = &self.rows[place];
-        let _len = row.len;
         let mut live = Vec::new(alloc);
-        let mut at = 0;
-        while let Some(i) = row.next_from(at) {
-            push_named(&mut live, &self.exposed, i)?;
-            at = i + 1;
-        }
+        self.collect_live(&mut live, block)?;
         Ok(live)
     }
 }

@@ -10,4 +10,4 @@ mod outline;
 
 pub use fronts::{Fronts, find_fronts};
 pub use named::Exposed;
-pub use outline::{Act, Outline, Stretch};
+pub use outline::{Act, Few, Outline, Stretch};

@@ -4,13 +4,17 @@ ghost use Rattle.std.specs.Prelude.{◌≡◌};
 ghost use Rattle.pw_flow.specs.Outline.{Act as ActValue, Stretch as StretchValue, Outline as OutlineValue};
 
 use pw_items::Items;
+use smallvec::SmallVec;
 use std::marker::Model;
+
+/// Numbers of temporaries or blocks, of which there are two at most in all but calls.
+pub type Few = SmallVec<u32, 2>;
 
 /// An operation: the temporary that it writes, those that it reads, each operand by itself, and whether it calls.
 #[derive(Drop)]
 pub struct Act {
     defines: Option<u32>,
-    uses: Items<u32>,
+    uses: Few,
     calls: bool,
 }
 
@@ -19,13 +23,13 @@ impl Model for Act {
 
     ghost Value = { ActValue };
 
-    ghost view = { λ a. record { defines = a.defines; uses = a.uses; calls = a.calls } };
+    ghost view = { λ a. record { defines = a.defines; uses = a.uses.items; calls = a.calls } };
 }
 
 impl Act {
     /// An operation of these parts.
-    pub fn new(defines: Option<u32>, uses: Items<u32>, calls: bool) -> Act
-        ensures { result ≡ record { defines = defines; uses = uses; calls = calls } }
+    pub fn new(defines: Option<u32>, uses: Few, calls: bool) -> Act
+        ensures { result ≡ record { defines = defines; uses = uses.items; calls = calls } }
     {
         Act {
             defines,
@@ -48,7 +52,8 @@ impl Act {
         self.uses.as_slice()
     }
 
-    /// Whether it calls a function.
+    /// Whether the operation calls a function, by name or through a pointer, so that registers that a callee may
+    /// change hold nothing across it.
     pub fn calls(&self) -> bool
         ensures { result ≡ self.now.calls }
     {
@@ -62,8 +67,8 @@ impl Act {
 pub struct Stretch {
     depth: u32,
     acts: Items<Act>,
-    uses: Items<u32>,
-    next: Items<u32>,
+    uses: Few,
+    next: Few,
 }
 
 impl Model for Stretch {
@@ -71,13 +76,13 @@ impl Model for Stretch {
 
     ghost Value = { StretchValue };
 
-    ghost view = { λ s. record { depth = s.depth; acts = s.acts; uses = s.uses; next = s.next } };
+    ghost view = { λ s. record { depth = s.depth; acts = s.acts; uses = s.uses.items; next = s.next.items } };
 }
 
 impl Stretch {
     /// A block of these parts.
-    pub fn new(depth: u32, acts: Items<Act>, uses: Items<u32>, next: Items<u32>) -> Stretch
-        ensures { result ≡ record { depth = depth; acts = acts; uses = uses; next = next } }
+    pub fn new(depth: u32, acts: Items<Act>, uses: Few, next: Few) -> Stretch
+        ensures { result ≡ record { depth = depth; acts = acts; uses = uses.items; next = next.items } }
     {
         Stretch {
             depth,
@@ -94,7 +99,7 @@ impl Stretch {
         self.depth
     }
 
-    /// Its operations.
+    /// The operations of the block, in the order in which they run.
     pub fn acts(&self) -> &[Act]
         ensures { result.now ≡ self.now.acts }
     {
@@ -158,7 +163,7 @@ impl Outline {
         self.temps
     }
 
-    /// Its blocks.
+    /// The blocks of the function by their numbers; it starts at block 0.
     pub fn blocks(&self) -> &[Stretch]
         ensures { result.now ≡ self.now.blocks }
     {

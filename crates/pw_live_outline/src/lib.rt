@@ -5,5 +5,5 @@ pub mod laws;
 mod outline;
 
 pub use outline::{
-    act_of, end_uses, numbers, op_calls, op_defines, op_uses, outline_of, successors,
+    act_of, end_uses, few, numbers, op_calls, op_defines, op_uses, outline_of, successors,
 };

@@ -6,7 +6,8 @@ ghost use Rattle.pw_flow.specs.Uses.{op_uses, op_defines, op_calls, end_uses, su
 
 use pw_flow::{Block, End, FlowFn, Op};
 use pw_items::Items;
-use pw_live_fronts::{Act, Outline, Stretch};
+use pw_live_fronts::{Act, Few, Outline, Stretch};
+use smallvec::SmallVec;
 use std::alloc::{AllocError as NoMemory, Global};
 
 /// The same numbers, as items.
@@ -16,37 +17,39 @@ pub fn numbers(alloc: Global, numbers: &[u32]) -> Result<Items<u32>, NoMemory>
     Ok(Items::from_vec(Vec::from_slice(alloc, numbers)?))
 }
 
-/// A number, and numbers behind it.
-fn numbers_behind(alloc: Global, first: u32, rest: &[u32]) -> Result<Items<u32>, NoMemory>
-    ensures { IfOk result (λ v. v ≡ first ∷ rest.now) }
+/// The same numbers, of which there are few.
+pub fn few(alloc: Global, numbers: &[u32]) -> Result<Few, NoMemory>
+    ensures { IfOk result (λ v. v.items ≡ numbers.now) }
 {
-    let mut all = Vec::with_capacity(alloc, rest.len())?;
-    all.push(first)?;
-    for &n in rest {
-        all.push(n)?;
-    }
-    Ok(Items::from_vec(all))
+    SmallVec::from_slice(alloc, numbers)
+}
+
+/// A number, and numbers behind it.
+fn few_behind(alloc: Global, first: u32, rest: &[u32]) -> Result<Few, NoMemory>
+    ensures { IfOk result (λ v. v.items ≡ first ∷ rest.now) }
+{
+    let mut all = few(alloc, &[first])?;
+    all.extend_from_slice(rest)?;
+    Ok(all)
 }
 
 /// The temporaries that an operation of a flow graph reads.
-pub fn op_uses(alloc: Global, op: &Op) -> Result<Items<u32>, NoMemory>
-    ensures { IfOk result (λ v. v ≡ op_uses op.now) }
+pub fn op_uses(alloc: Global, op: &Op) -> Result<Few, NoMemory>
+    ensures { IfOk result (λ v. v.items ≡ op_uses op.now) }
 {
     match op {
         Op::Const(_, _)
         | Op::AddrGlobal(_, _, _)
         | Op::AddrSlot(_, _)
         | Op::AddrFn(_, _)
-        | Op::LoadG(_, _, _) => Ok(Items::new(alloc)),
+        | Op::LoadG(_, _, _) => Ok(SmallVec::new(alloc)),
         Op::Copy(_, a) | Op::Un(_, _, a) | Op::Ext(_, _, a) | Op::Load(_, _, a) => {
-            numbers(alloc, &[*a])
+            few(alloc, &[*a])
         }
-        Op::StoreG(_, a, _) => numbers(alloc, &[*a]),
-        Op::Bin(_, _, a, b) | Op::Store(_, a, b) | Op::Move(a, b, _, _) => {
-            numbers(alloc, &[*a, *b])
-        }
-        Op::Call(_, _, args) => numbers(alloc, args.as_slice()),
-        Op::CallInd(_, a, _, args) => numbers_behind(alloc, *a, args.as_slice()),
+        Op::StoreG(_, a, _) => few(alloc, &[*a]),
+        Op::Bin(_, _, a, b) | Op::Store(_, a, b) | Op::Move(a, b, _, _) => few(alloc, &[*a, *b]),
+        Op::Call(_, _, args) => few(alloc, args.as_slice()),
+        Op::CallInd(_, a, _, args) => few_behind(alloc, *a, args.as_slice()),
     }
 }
 
@@ -90,31 +93,31 @@ pub fn act_of(alloc: Global, op: &Op) -> Result<Act, NoMemory>
 fn acts(alloc: Global, ops: &[Op]) -> Result<Items<Act>, NoMemory>
     ensures { IfOk result (λ v. v ≡ map act_of ops.now) }
 {
-    let mut acts = Items::new(alloc);
+    let mut acts = Vec::with_capacity(alloc, ops.len())?;
     for op in ops {
         acts.push(act_of(alloc, op)?)?;
     }
-    Ok(acts)
+    Ok(Items::from_vec(acts))
 }
 
 /// The temporaries that the end of a block reads.
-pub fn end_uses(alloc: Global, end: End) -> Result<Items<u32>, NoMemory>
-    ensures { IfOk result (λ v. v ≡ end_uses end) }
+pub fn end_uses(alloc: Global, end: End) -> Result<Few, NoMemory>
+    ensures { IfOk result (λ v. v.items ≡ end_uses end) }
 {
     match end {
-        End::Jump(_) | End::Return(None) => Ok(Items::new(alloc)),
-        End::Branch(a, _, _) | End::Return(Some(a)) => numbers(alloc, &[a]),
+        End::Jump(_) | End::Return(None) => Ok(SmallVec::new(alloc)),
+        End::Branch(a, _, _) | End::Return(Some(a)) => few(alloc, &[a]),
     }
 }
 
 /// The blocks at which it may go on.
-pub fn successors(alloc: Global, end: End) -> Result<Items<u32>, NoMemory>
-    ensures { IfOk result (λ v. v ≡ successors end) }
+pub fn successors(alloc: Global, end: End) -> Result<Few, NoMemory>
+    ensures { IfOk result (λ v. v.items ≡ successors end) }
 {
     match end {
-        End::Jump(b) => numbers(alloc, &[b]),
-        End::Branch(_, b, c) => numbers(alloc, &[b, c]),
-        End::Return(_) => Ok(Items::new(alloc)),
+        End::Jump(b) => few(alloc, &[b]),
+        End::Branch(_, b, c) => few(alloc, &[b, c]),
+        End::Return(_) => Ok(SmallVec::new(alloc)),
     }
 }
 
@@ -131,9 +134,9 @@ fn stretch(alloc: Global, block: &Block) -> Result<Stretch, NoMemory>
 pub fn outline_of(alloc: Global, f: &FlowFn) -> Result<Outline, NoMemory>
     ensures { IfOk result (λ o. o ≡ outline_of f.now) }
 {
-    let mut blocks = Items::new(alloc);
+    let mut blocks = Vec::with_capacity(alloc, f.blocks.len())?;
     for block in f.blocks.as_slice() {
         blocks.push(stretch(alloc, block)?)?;
     }
-    Ok(Outline::new(f.params, f.temps, blocks))
+    Ok(Outline::new(f.params, f.temps, Items::from_vec(blocks)))
 }

@@ -209,7 +209,7 @@ impl Code {
         self.labels = Items::from_vec(blocks);
     }
 
-    /// The block that a label begins.
+    /// The number of the block that a label begins; 0 for a number that no label has.
     pub fn block_of_label(&self, label: u32) -> u32
         ensures { result ≡ spec.block_of_label self.now label }
     {

@@ -144,7 +144,8 @@ pub fn cond_turned(
     turned(alloc, fork, code)
 }
 
-/// The end of `?:`.
+/// `?:` behind its third operand (C90 6.3.15): both ways come together here, and the temporary of the result is
+/// answered, or None where the type is void.
 pub fn cond_joined(
     alloc: Global,
     ty: &CType,

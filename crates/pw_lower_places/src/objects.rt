@@ -75,7 +75,7 @@ fn lower_item(alloc: Global, name: &Name, item: &TItem) -> Result<Item, NoMemory
     ensures { IfOk result (λ v. v ≡ spec.item_of name.now (view_item item.now)) }
 {
     match item {
-        TItem::Bytes(bytes) => Ok(Item::Bytes(Items::from_vec(Vec::from_slice(alloc, bytes)?))),
+        TItem::Bytes(bytes) => Ok(Item::Bytes(Items::from_slice(alloc, bytes)?)),
         TItem::Address(symbol, n) => Ok(Item::Address(full_name(alloc, name, symbol)?, *n)),
     }
 }
@@ -130,7 +130,8 @@ pub fn lower_globals(
     Ok(globals)
 }
 
-/// What a module declares.
+/// The names with external linkage that a module declares or defines (C90 6.1.2.2), in order, each with the shape of
+/// its type. Fails only for want of memory.
 pub fn lower_declared(
     alloc: Global,
     types: &Types,

@@ -73,7 +73,8 @@ fn test_or_go(
     }
 }
 
-/// Lowers a statement.
+/// Puts the operations and blocks of a statement behind the code so far (C90 6.6); `ways` says where `break` and
+/// `continue` go. Fails only for want of memory.
 #[cycle(statement)]
 pub fn lower_statement(
     alloc: Global,

@@ -13,7 +13,8 @@ use pw_inst::{Fix, Symbol};
 use pw_value::Name;
 use std::alloc::{AllocError, Global};
 
-/// Adds the names of fixes.
+/// Adds the names of functions and objects at which relocations point, in order; those that the linker itself knows
+/// have none.
 pub fn add_fixes<'a>(used: &mut Vec<&'a Name>, fixes: &'a [Fix]) -> Result<(), AllocError>
     ensures { OnOk result (map (λ name. name.now) used.new.items ≡ map (λ name. name.now) used.old.items ++ flat_map (λ x. names_of_symbol x.symbol) fixes.now) }
 {

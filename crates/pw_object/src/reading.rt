@@ -122,8 +122,8 @@ fn object_of(
     Ok(Object {
         version: VERSION,
         module: module.copy(alloc)?,
-        flow: Items::from_vec(Vec::from_slice(alloc, flow)?),
-        directives: Items::from_vec(Vec::from_slice(alloc, directives)?),
+        flow: Items::from_slice(alloc, flow)?,
+        directives: Items::from_slice(alloc, directives)?,
         declared,
         used,
         globals,

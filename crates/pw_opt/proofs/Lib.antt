@@ -1,3 +1,4 @@
 mod Sound
 mod Listing
 mod Alone
+mod Homes

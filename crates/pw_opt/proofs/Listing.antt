@@ -19,4 +19,4 @@ optimised_more m fs i f g old new lt is pushed o before =
     (subst (λ (x : FlowFn). AreOptimised m (take i fs ++ x ∷ []) new) is (subst (AreOptimised m (take i fs ++ f ∷ [])) (sym pushed) (optimised_push m (take i fs) old f g before o)))
 
 pub is_rewritten : (w : Rewriting) (may : ℕ → ℕ → Bool) (f g : FlowFn) → IsRewrittenWithin w may f g → IsRewritten w f g
-is_rewritten w may f g r = record { rows = r.rows; known = r.known; is = r.is }
+is_rewritten w may f g r = r.rewritten

@@ -24,7 +24,7 @@ use Rattle.pw_opt_rules.specs.Constants.{constant, const_or, constant_op, jump_o
 use Rattle.pw_opt_rules.specs.Copies.{one_or, original, with_operands, with_end_operand, copies}
 use Rattle.pw_opt_rows.specs.Joins.{HasWhatMay}
 use Rattle.pw_opt_rows.specs.Outflows.{HasWays, AreAbout}
-use Rattle.pw_opt_copies.specs.Copiers.{is_copier, is_noted, CopiesBelow}
+use Rattle.pw_opt_copies.specs.Originals.{may_copy, is_noted, CopiesBelow}
 use Rattle.pw_opt_copies.specs.Keeping.{copies_keep}
 use Rattle.pw_opt_rewrite.specs.Within.{IsRewrittenWithin}
 
@@ -152,7 +152,7 @@ rewritten_sound w may about f g k all s r = subst IsSound (sym r.is) (record {
   params = s.params;
   start = subst (λ (n : ℕ). 0 < n) (sym long) s.start;
   blocks = subst (λ (n : ℕ). AllByRecursion (IsSoundBlock f.temps n) (rewritten_blocks w r.rows f.blocks)) (sym long)
-      (blocks_sound w may about f.temps (length f.blocks) k r.rows f.blocks all (λ i d lt. (r.own i d lt).1) s.blocks);
+      (blocks_sound w may about f.temps (length f.blocks) k r.rows f.blocks all r.own s.blocks);
 })
   where
     long : length (rewritten_blocks w r.rows f.blocks) ≡ length f.blocks
@@ -204,16 +204,16 @@ constants_sound temps count = record {
 
 -- ---- copies
 
-copier_below : (copiers : List (List ℕ)) (t a : ℕ) → is_copier copiers t a ≡ true → a < length copiers
-copier_below copiers t a e = elim (cases_lt a (length copiers)) [
+original_below : (originals : List Bool) (t a : ℕ) → may_copy originals t a ≡ true → a < length originals
+original_below originals t a e = elim (cases_lt a (length originals)) [
   | inl lt ↦ lt
-  | inr past ↦ absurd (let none : is_copier copiers t a ≡ false = ap (list_any (λ (u : ℕ). u == t)) (get_or_past copiers a [] past) in cc)
+  | inr past ↦ absurd (let none : may_copy originals t a ≡ false = get_or_past originals a false past in cc)
 ]
 
-module _ (copiers : List (List ℕ)) (temps : ℕ) (long : length copiers ≡ temps) (row : List Flat) (has : HasWhatMay (is_copier copiers) row) where
+module _ (originals : List Bool) (temps : ℕ) (long : length originals ≡ temps) (row : List Flat) (has : HasWhatMay (may_copy originals) row) where
   one_below : (a : ℕ) (x : Flat) → known row a ≡ x → a < temps → one_or x a < temps
   one_below a Bottom e lt = lt
-  one_below a (One n) e lt = let low = copier_below copiers a n (has a n e) in omega (arith, low, long)
+  one_below a (One n) e lt = let low = original_below originals a n (has a n e) in omega (arith, low, long)
   one_below a Many e lt = lt
 
   original_below : (a : ℕ) → a < temps → original row a < temps
@@ -250,11 +250,11 @@ end_operand_next h count (Jump b) s = s
 end_operand_next h count (Branch a b c) s = s
 end_operand_next h count (Return t) s = s
 
-pub copies_sound : (copiers : List (List ℕ)) (temps count : ℕ) → length copiers ≡ temps → KeepsSound copies (is_copier copiers) (is_noted copiers) temps count
-copies_sound copiers temps count long = record {
-  keeps = copies_keep copiers;
-  ops = λ row o has s. operands_sound copiers temps long row has o s;
-  uses = λ row e has s. end_operand_uses copiers temps long row has e s;
+pub copies_sound : (originals : List Bool) (temps count : ℕ) → length originals ≡ temps → KeepsSound copies (may_copy originals) (is_noted originals) temps count
+copies_sound originals temps count long = record {
+  keeps = copies_keep originals;
+  ops = λ row o has s. operands_sound originals temps long row has o s;
+  uses = λ row e has s. end_operand_uses originals temps long row has e s;
   next = λ row e s. end_operand_next (original row) count e s;
 }
 
@@ -263,5 +263,5 @@ copies_sound copiers temps count long = record {
 pub folded_sound : (f g : FlowFn) → IsFunction f → IsRewrittenWithin constants (λ _ _. true) f g → IsSound g
 folded_sound f g l r = rewritten_sound constants (λ _ _. true) (λ _. true) f g (constants_sound f.temps (length f.blocks)) (about_all f.blocks) (lawful_sound f l) r
 
-pub copied_sound : (copiers : List (List ℕ)) (g h : FlowFn) → IsSound g → length copiers ≡ g.temps → All (AreAbout (is_noted copiers)) g.blocks → IsRewrittenWithin copies (is_copier copiers) g h → IsSound h
-copied_sound copiers g h s long all r = rewritten_sound copies (is_copier copiers) (is_noted copiers) g h (copies_sound copiers g.temps (length g.blocks) long) all s r
+pub copied_sound : (originals : List Bool) (g h : FlowFn) → IsSound g → length originals ≡ g.temps → All (AreAbout (is_noted originals)) g.blocks → IsRewrittenWithin copies (may_copy originals) g h → IsSound h
+copied_sound originals g h s long all r = rewritten_sound copies (may_copy originals) (is_noted originals) g h (copies_sound originals g.temps (length g.blocks) long) all s r

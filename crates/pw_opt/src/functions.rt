@@ -9,8 +9,9 @@ use crate::again::same_function;
 use pw_flow::FlowFn;
 use pw_items::Items;
 use pw_opt_constants::Constants;
-use pw_opt_copies::Copiers;
+use pw_opt_copies::Originals;
 use pw_opt_dead::remove_dead;
+use pw_opt_places::Places;
 use pw_opt_quiet::Quiet;
 use pw_opt_rewrite::rewrite;
 use pw_opt_rules::OPTIMISE_LIMIT;
@@ -36,13 +37,14 @@ fn optimise_function(
     requires { IsFunction f.now }
     ensures { IfOk result (IsOptimised quiet.now.flow.now f.now) }
 {
+    let same = same_function(alloc, constants, f)?;
     if !is_small(f) {
-        let same = same_function(alloc, constants, f)?;
         return Ok(same);
     }
-    let folded = rewrite(alloc, constants, f)?;
-    let copiers = Copiers::new(alloc, &folded)?;
-    let copied = rewrite(alloc, &copiers, &folded)?;
+    let places = Places::of(alloc, &same)?;
+    let folded = rewrite(alloc, constants, &places, same)?;
+    let originals = Originals::new(alloc, &folded)?;
+    let copied = rewrite(alloc, &originals, &places, folded)?;
     let live = remove_dead(alloc, quiet, copied)?;
     Ok(live)
 }

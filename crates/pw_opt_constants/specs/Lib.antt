@@ -1,1 +1,2 @@
 pub mod Anything
+pub mod Folding

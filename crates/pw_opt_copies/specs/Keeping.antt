@@ -1,4 +1,4 @@
--- Behind an operation that the copiers have, a temporary is known to be a copy only where it is a copier.
+-- Behind an operation whose original is noted, a temporary is known to be a copy only of what is noted.
 use Rattle.std.specs.Prelude.{ℕ, ◌≡◌, ◌⊎◌, ◌==◌, if◌then◌else◌, Bool, true, false, Option, Some, None, List, length, slice_set}
 use Rattle.std.proofs.Common.{sym, ap, subst, ◌∙◌, arith, inl, inr}
 use Rattle.std.proofs.lemmas.Bool.{cases_eq, cases_lt}
@@ -13,7 +13,7 @@ use Rattle.pw_opt_rules.specs.Rows.{known}
 use Rattle.pw_opt_rules.specs.Copies.{copied, without_copies, with_copy, copy_transfer}
 use Rattle.pw_opt_order.specs.Order.{forgotten}
 use Rattle.pw_opt_rows.specs.Joins.{HasWhatMay}
-use Rattle.pw_opt_copies.specs.Copiers.{is_copier, is_noted}
+use Rattle.pw_opt_copies.specs.Originals.{may_copy, is_noted}
 
 -- what a row knows where one place is set: that, or what it knew
 pub set_one : (row : List Flat) (d : ℕ) (x : Flat) (t n : ℕ) → known (slice_set row d x) t ≡ One n → ((t ≡ d) × (x ≡ One n)) ⊎ (known row t ≡ One n)
@@ -39,24 +39,24 @@ forgotten_one d Many n e = e
 pub without_one : (row : List Flat) (d t n : ℕ) → known (without_copies row d) t ≡ One n → known row t ≡ One n
 without_one row d t n e = forgotten_one d (known row t) n (sym (get_or-map (forgotten d) row t Many) ∙ e)
 
--- what an operation makes a copy of has its temporary as a copier
-copied_noted : (copiers : List (List ℕ)) (o : Op) (d n : ℕ) → is_noted copiers o ≡ true → op_defines o ≡ Some d → copied o ≡ One n → is_copier copiers d n ≡ true
-copied_noted copiers (op.Copy t a) d n noted def e = either (a == t) e where
-  either : (c : Bool) → (if c then Many else One a) ≡ One n → is_copier copiers d n ≡ true
+-- what an operation makes a copy of is noted
+copied_noted : (originals : List Bool) (o : Op) (d n : ℕ) → is_noted originals o ≡ true → op_defines o ≡ Some d → copied o ≡ One n → may_copy originals d n ≡ true
+copied_noted originals (op.Copy t a) d n noted def e = either (a == t) e where
+  either : (c : Bool) → (if c then Many else One a) ≡ One n → may_copy originals d n ≡ true
   either true e = absurd cc
   either false e =
       let first : t ≡ d = cc in
       let second : a ≡ n = cc in
-      subst (λ (k : ℕ). is_copier copiers k n ≡ true) first (subst (λ (k : ℕ). is_copier copiers t k ≡ true) second noted)
-copied_noted copiers o d n noted def e = absurd cc
+      subst (λ (k : ℕ). may_copy originals k n ≡ true) first (subst (λ (k : ℕ). may_copy originals t k ≡ true) second noted)
+copied_noted originals o d n noted def e = absurd cc
 
-defined_keeps : (copiers : List (List ℕ)) (row : List Flat) (d : Option ℕ) (x : Flat) → ((t n : ℕ) → d ≡ Some t → x ≡ One n → is_copier copiers t n ≡ true)
-    → HasWhatMay (is_copier copiers) row → HasWhatMay (is_copier copiers) (with_copy row d x)
-defined_keeps copiers row None x fits may t n e = may t n e
-defined_keeps copiers row (Some d) x fits may t n e = elim (set_one (without_copies row d) d x t n e) [
+defined_keeps : (originals : List Bool) (row : List Flat) (d : Option ℕ) (x : Flat) → ((t n : ℕ) → d ≡ Some t → x ≡ One n → may_copy originals t n ≡ true)
+    → HasWhatMay (may_copy originals) row → HasWhatMay (may_copy originals) (with_copy row d x)
+defined_keeps originals row None x fits may t n e = may t n e
+defined_keeps originals row (Some d) x fits may t n e = elim (set_one (without_copies row d) d x t n e) [
   | inl k ↦ fits t n (ap Some (sym k.0)) k.1
   | inr k ↦ may t n (without_one row d t n k)
 ]
 
-pub copies_keep : (copiers : List (List ℕ)) (row : List Flat) (o : Op) → is_noted copiers o ≡ true → HasWhatMay (is_copier copiers) row → HasWhatMay (is_copier copiers) (copy_transfer row o)
-copies_keep copiers row o noted may = defined_keeps copiers row (op_defines o) (copied o) (λ t n def e. copied_noted copiers o t n noted def e) may
+pub copies_keep : (originals : List Bool) (row : List Flat) (o : Op) → is_noted originals o ≡ true → HasWhatMay (may_copy originals) row → HasWhatMay (may_copy originals) (copy_transfer row o)
+copies_keep originals row o noted may = defined_keeps originals row (op_defines o) (copied o) (λ t n def e. copied_noted originals o t n noted def e) may

@@ -1,2 +1,2 @@
-pub mod Copiers
 pub mod Keeping
+pub mod Originals

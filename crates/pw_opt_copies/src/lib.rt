@@ -1,7 +1,7 @@
 //! Copies in flow graphs: temporaries that hold on every path what one other temporary holds.
 #![tactic(auto)]
 
-mod copiers;
 mod copies;
+mod originals;
 
-pub use copiers::Copiers;
+pub use originals::Originals;

@@ -55,6 +55,24 @@ marked_more temps i old now lt low before t =
     marked_set now x t low ∙ ap (λ (b : Bool). x == t || b) (before t) ∙ or_turn (x == t) (has t (take i temps)) (is_marked old t)
     ∙ sym (ap (λ (b : Bool). b || is_marked old t) (list_any_more (λ (u : ℕ). u == t) temps i 0 lt))
 
+not_either : (x h o : Bool) → (not x && (not h && o)) ≡ (not (h || x) && o)
+not_either true true o = refl
+not_either true false o = refl
+not_either false true o = refl
+not_either false false o = refl
+
+-- and one less
+pub unmarked_more : (temps : List ℕ) (i : ℕ) (old now new : List Bool) → i < length temps → ((t : ℕ) → is_marked now t ≡ (not (has t (take i temps)) && is_marked old t))
+    → ((t : ℕ) → is_marked new t ≡ (not (get_or temps i 0 == t) && is_marked now t)) → (t : ℕ) → is_marked new t ≡ (not (has t (take (i + 1) temps)) && is_marked old t)
+unmarked_more temps i old now new lt before step t =
+    step t ∙ ap (λ (b : Bool). not (get_or temps i 0 == t) && b) (before t) ∙ not_either (get_or temps i 0 == t) (has t (take i temps)) (is_marked old t)
+    ∙ sym (ap (λ (b : Bool). not b && is_marked old t) (list_any_more (λ (u : ℕ). u == t) temps i 0 lt))
+
+-- where just what is marked loses its mark, nothing is marked
+pub none_left : (a b c : Bool) → b ≡ a → c ≡ (not a && b) → c ≡ false
+none_left true b c e f = f
+none_left false b c e f = f ∙ e
+
 -- ---- what is live at the front of a block
 
 same_bool : (a b : Bool) → (a ≡ true → b ≡ true) → (b ≡ true → a ≡ true) → a ≡ b

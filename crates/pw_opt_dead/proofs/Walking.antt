@@ -102,6 +102,9 @@ pub walk_all : (m : FlowModule) (all left : List Op) (first live : List Bool) (k
 walk_all m all left first live kept w none f b is =
     w.kept_is f b is ∙ ap (λ (ops : List Op). reverse (live_ops m f b ops)) (ap (λ (xs : List Op). xs ++ w.rest) (sym none) ∙ w.split)
 
+pub walk_live : (m : FlowModule) (all left : List Op) (first live : List Bool) (kept : List Op) → Walk m all left first live kept → left ≡ [] → (f : Outline) (b : Block) → MarksLive f b [] first → MarksLive f b all live
+walk_live m all left first live kept w none f b is = subst (λ (ops : List Op). MarksLive f b ops live) (ap (λ (xs : List Op). xs ++ w.rest) (sym none) ∙ w.split) (w.live_is f b is)
+
 -- ---- blocks
 
 pub record BlockWalk (m : FlowModule) (o : Outline) (all left new : List Block) : Type 0 where

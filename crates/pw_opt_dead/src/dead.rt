@@ -1,6 +1,6 @@
 //! Dead operations: those that do no more than define a temporary which is not live directly behind them.
 
-ghost use Rattle.std.specs.Prelude.{◌≡◌, ◌&&◌, ◌++◌, ◌∷◌, if◌then◌else◌, not, [], map, reverse, length, All, IfOk, OnOk, vec_len};
+ghost use Rattle.std.specs.Prelude.{ℕ, ◌≡◌, ◌<◌, ◌&&◌, ◌++◌, ◌∷◌, if◌then◌else◌, false, not, [], Some, map, reverse, length, slice_get, All, IfOk, OnOk, vec_len};
 ghost use Rattle.pw_flow.specs.Outline.{Outline as OutlineValue, act_of, stretch_of, outline_of};
 ghost use Rattle.pw_flow.specs.Uses.{op_defines};
 ghost use Rattle.pw_flow.specs.declared.flow.Block.{Block as BlockValue};
@@ -9,9 +9,10 @@ ghost use Rattle.pw_live_fronts.specs.LiveFronts.{AreFronts};
 ghost use Rattle.pw_opt_rules.specs.Dead.{only_defines, live_ops, live_block, without_dead};
 ghost use Rattle.pw_opt_dead.specs.Marks.{is_marked, is_needed_by, MarksLive};
 
-use crate::marks::{live_at_end, step_back};
+use crate::marks::{mark_end, step_back, unmark_front};
 use pw_flow::{Block, FlowFn, Op};
 use pw_items::Items;
+use pw_live::laws::longer_paths_add_nothing;
 use pw_live_fronts::{Act, Fronts, Outline, Stretch, find_fronts};
 use pw_live_outline::outline_of;
 use pw_opt_quiet::Quiet;
@@ -48,7 +49,8 @@ fn push_if(kept: &mut Vec<Op>, op: Op, stays: bool) -> Result<(), NoMemory>
     Ok(())
 }
 
-/// The operations of a block that stay, from the last one to the first. `live` is what is live at the block's end, and is spent.
+/// The operations of a block that stay, from the last one to the first. `live` is what is live at the block's end, and becomes
+/// what is live at its front.
 fn kept_ops(
     alloc: Global,
     quiet: &Quiet<'_>,
@@ -58,10 +60,12 @@ fn kept_ops(
 ) -> Result<Vec<Op>, NoMemory>
     requires acts { acts.now ≡ map act_of ops }
     requires within { All (IsAct (length live.old)) acts.now }
-    ensures { IfOk result (λ kept. (f : OutlineValue) (b : BlockValue) → MarksLive f b [] live.old → kept.items ≡ reverse (live_ops quiet.now.flow.now f b ops)) }
+    ensures length { length live.new ≡ length live.old }
+    ensures kept { IfOk result (λ kept. (f : OutlineValue) (b : BlockValue) → MarksLive f b [] live.old → kept.items ≡ reverse (live_ops quiet.now.flow.now f b ops)) }
+    ensures live { OnOk result ((f : OutlineValue) (b : BlockValue) → MarksLive f b [] live.old → MarksLive f b ops live.new) }
 {
     let mut left = ops;
-    let mut kept = Vec::new(alloc);
+    let mut kept = Vec::with_capacity(alloc, left.len())?;
     while let Some(op) = left.pop() {
         let act = &acts[left.len()];
         let stays = stays(quiet, live, &op, act);
@@ -71,23 +75,43 @@ fn kept_ops(
     Ok(kept)
 }
 
-/// A block without its dead operations.
+/// Marks of temporaries, and a list of some.
+#[derive(Drop)]
+struct Room {
+    live: Vec<bool>,
+    at: Vec<u32>,
+}
+
+/// A block without its dead operations. Nothing is marked, before and behind.
 fn live_block(
     alloc: Global,
     quiet: &Quiet<'_>,
     fronts: &Fronts,
-    temps: u32,
+    room: &mut Room,
+    place: usize,
     block: Block,
     stretch: &Stretch,
 ) -> Result<Block, NoMemory>
     requires stretch { stretch.now ≡ stretch_of block }
-    requires within { IsStretch temps (vec_len fronts.now.rows) stretch.now }
-    requires temps { temps ≡ vec_len fronts.now.exposed.numbers }
-    ensures { IfOk result (λ new. (f : OutlineValue) → AreFronts f fronts.now → new ≡ live_block quiet.now.flow.now f block) }
+    requires within { IsStretch (vec_len room.old.live) (vec_len fronts.now.rows) stretch.now }
+    requires temps { vec_len room.old.live ≡ vec_len fronts.now.exposed.numbers }
+    requires place { place < vec_len fronts.now.rows }
+    requires none { (t : ℕ) → is_marked room.old.live.items t ≡ false }
+    ensures length { vec_len room.new.live ≡ vec_len room.old.live }
+    ensures block { IfOk result (λ new. (f : OutlineValue) → AreFronts f fronts.now → new ≡ live_block quiet.now.flow.now f block) }
+    ensures none { OnOk result ((f : OutlineValue) → AreFronts f fronts.now → slice_get f.blocks place ≡ Some stretch.now → (t : ℕ) → is_marked room.new.live.items t ≡ false) }
 {
     let Block { depth, ops, end } = block;
-    let mut live = live_at_end(alloc, fronts, temps, stretch.uses(), stretch.next())?;
-    let mut kept = kept_ops(alloc, quiet, &mut live, ops, stretch.acts())?;
+    mark_end(
+        &mut room.live,
+        &mut room.at,
+        fronts,
+        stretch.uses(),
+        stretch.next(),
+    )?;
+    let mut kept = kept_ops(alloc, quiet, &mut room.live, ops, stretch.acts())?;
+    unmark_front(&mut room.live, &mut room.at, fronts, place)?;
+    longer_paths_add_nothing();
     kept.reverse();
     let ops = Items::from_vec(kept);
     Ok(Block { depth, ops, end })
@@ -106,11 +130,15 @@ fn live_blocks(
     requires fronts { AreFronts outline.now fronts.now }
     ensures { IfOk result (λ new. new ≡ map (live_block quiet.now.flow.now outline.now) blocks) }
 {
+    let live = vec![in alloc; false; outline.temps() as usize]?;
+    let at = Vec::new(alloc);
+    let mut room = Room { live, at };
     let mut left = blocks;
-    let mut new = Vec::new(alloc);
+    let mut new = Vec::with_capacity(alloc, left.len())?;
     while let Some(block) = left.pop() {
-        let stretch = &outline.blocks()[left.len()];
-        let block = live_block(alloc, quiet, fronts, outline.temps(), block, stretch)?;
+        let place = left.len();
+        let stretch = &outline.blocks()[place];
+        let block = live_block(alloc, quiet, fronts, &mut room, place, block, stretch)?;
         new.push(block)?;
     }
     new.reverse();

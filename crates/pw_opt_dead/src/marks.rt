@@ -1,6 +1,6 @@
 //! What is live at a point of a block, as a mark for each temporary.
 
-ghost use Rattle.std.specs.Prelude.{ℕ, ◌≡◌, ◌&&◌, ◌||◌, ◌<◌, false, not, length, All, IfOk, OnOk, vec_len};
+ghost use Rattle.std.specs.Prelude.{ℕ, ◌≡◌, ◌&&◌, ◌||◌, ◌<◌, false, not, length, All, OnOk, vec_len};
 ghost use Rattle.std.specs.List.{list_any};
 ghost use Rattle.pw_flow.specs.Outline.{Outline as OutlineValue};
 ghost use Rattle.pw_live.specs.Liveness.{has, is_that, is_live_in};
@@ -9,7 +9,7 @@ ghost use Rattle.pw_live_fronts.specs.LiveFronts.{AreFronts};
 ghost use Rattle.pw_opt_dead.specs.Marks.{is_marked};
 
 use pw_live_fronts::{Act, Fronts};
-use std::alloc::{AllocError as NoMemory, Global};
+use std::alloc::AllocError as NoMemory;
 
 /// Marks temporaries.
 fn mark_all(live: &mut [bool], temps: &[u32])
@@ -46,22 +46,53 @@ pub(crate) fn step_back(live: &mut [bool], act: &Act)
     mark_all(live, act.uses());
 }
 
-/// Marks what is live at the front of a block.
-fn mark_front(live: &mut [bool], alloc: Global, fronts: &Fronts, block: u32) -> Result<(), NoMemory>
+/// Takes the marks of temporaries away.
+fn unmark_all(live: &mut [bool], temps: &[u32])
+    ensures length { length live.new ≡ length live.old }
+    ensures marks { (t : ℕ) → is_marked live.new t ≡ (not (has t temps.now) && is_marked live.old t) }
+{
+    for &t in temps {
+        unmark(live, Some(t));
+    }
+}
+
+/// Takes the marks of what is live at the front of a block away. `at` is spent.
+pub(crate) fn unmark_front(
+    live: &mut [bool],
+    at: &mut Vec<u32>,
+    fronts: &Fronts,
+    block: usize,
+) -> Result<(), NoMemory>
+    requires block { block < vec_len fronts.now.rows }
+    ensures length { length live.new ≡ length live.old }
+    ensures marks { OnOk result ((f : OutlineValue) → AreFronts f fronts.now → (t : ℕ) → is_marked live.new t ≡ (not (is_live_in f t block) && is_marked live.old t)) }
+{
+    fronts.collect_live(at, block)?;
+    unmark_all(live, at);
+    Ok(())
+}
+
+/// Marks what is live at the front of a block. `at` is spent.
+fn mark_front(
+    live: &mut [bool],
+    at: &mut Vec<u32>,
+    fronts: &Fronts,
+    block: u32,
+) -> Result<(), NoMemory>
     requires block { block < vec_len fronts.now.rows }
     requires temps { length live.old ≡ vec_len fronts.now.exposed.numbers }
     ensures length { length live.new ≡ length live.old }
     ensures marks { OnOk result ((f : OutlineValue) → AreFronts f fronts.now → (t : ℕ) → is_marked live.new t ≡ (is_live_in f t block || is_marked live.old t)) }
 {
-    let at = fronts.live(alloc, block as usize)?;
-    mark_all(live, &at);
+    fronts.collect_live(at, block as usize)?;
+    mark_all(live, at);
     Ok(())
 }
 
-/// Marks what is live at the end of a block, where nothing is marked yet.
-fn mark_end(
+/// Marks what is live at the end of a block, where nothing is marked yet. `at` is spent.
+pub(crate) fn mark_end(
     live: &mut [bool],
-    alloc: Global,
+    at: &mut Vec<u32>,
     fronts: &Fronts,
     uses: &[u32],
     next: &[u32],
@@ -74,27 +105,8 @@ fn mark_end(
     ensures marks { OnOk result ((f : OutlineValue) → AreFronts f fronts.now → (t : ℕ) → is_marked live.new t ≡ (has t uses.now || list_any (is_live_in f t) next.now)) }
 {
     for &block in next {
-        mark_front(live, alloc, fronts, block)?;
+        mark_front(live, at, fronts, block)?;
     }
     mark_all(live, uses);
     Ok(())
-}
-
-/// What is live at the end of a block, of so many temporaries.
-pub(crate) fn live_at_end(
-    alloc: Global,
-    fronts: &Fronts,
-    temps: u32,
-    uses: &[u32],
-    next: &[u32],
-) -> Result<Vec<bool>, NoMemory>
-    requires temps { temps ≡ vec_len fronts.now.exposed.numbers }
-    requires uses { All (λ t. t < temps) uses.now }
-    requires next { All (λ b. b < vec_len fronts.now.rows) next.now }
-    ensures length { IfOk result (λ live. vec_len live ≡ temps) }
-    ensures marks { IfOk result (λ live. (f : OutlineValue) → AreFronts f fronts.now → (t : ℕ) → is_marked live.items t ≡ (has t uses.now || list_any (is_live_in f t) next.now)) }
-{
-    let mut live = vec![in alloc; false; temps as usize]?;
-    mark_end(&mut live, alloc, fronts, uses, next)?;
-    Ok(live)
 }

@@ -123,7 +123,7 @@ without_rises xs ys t b u =
     subst (λ z. IsBelow z (known (without_copies ys t) u)) (sym (get_or-map (forgotten t) xs u Many))
     (subst (λ z. IsBelow (forgotten t (known xs u)) z) (sym (get_or-map (forgotten t) ys u Many)) (forgotten_rises t (known xs u) (known ys u) (b u)))
 
-without_long : (xs : List Flat) (t : ℕ) → length (without_copies xs t) ≡ length xs
+pub without_long : (xs : List Flat) (t : ℕ) → length (without_copies xs t) ≡ length xs
 without_long xs t = length-map xs (forgotten t)
 
 copy_rises : (xs ys : List Flat) (t : Option ℕ) (x : Flat) → length xs ≡ length ys → IsRowBelow xs ys → IsRowBelow (with_copy xs t x) (with_copy ys t x)

@@ -1,5 +1,5 @@
 -- Transfers that rise: more that is known before an operation is more that is known behind it.
-use Rattle.std.specs.Prelude.{ℕ, ◌≡◌, List, length}
+use Rattle.std.specs.Prelude.{◌≡◌, List, length}
 use Rattle.pw_flow.specs.declared.flow.Op.{Op}
 use Rattle.pw_opt_rules.specs.declared.flat.Flat.{Flat}
 use Rattle.pw_opt_rules.specs.Rows.{IsRowBelow}

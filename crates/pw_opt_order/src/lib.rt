@@ -3,4 +3,4 @@
 
 mod laws;
 
-pub use laws::transfers_rise;
+pub use laws::{rewritings_read_operands, transfers_rise};

@@ -1,5 +1,6 @@
 -- Rewriting, operation by operation and block by block.
-use Rattle.std.proofs.Common.{◌≡◌, ℕ, zero, suc, ◌+◌, ◌<◌, ◌≤◌, List, [], ◌∷◌, ◌++◌, length, get_or, set, take, refl, sym, ap, ◌∙◌, arith}
+use Rattle.std.proofs.Common.{◌≡◌, ℕ, zero, suc, ◌+◌, ◌<◌, ◌≤◌, List, [], ◌∷◌, ◌++◌, length, get_or, set, take, drop, refl, sym, ap, ◌∙◌, arith}
+use Rattle.std.proofs.lemmas.Grind.{common_steps}
 use Rattle.std.proofs.lemmas.List.{take_more, get_or_default, get_or-set_other}
 use Rattle.pw_flow.specs.declared.flow.Op.{Op}
 use Rattle.pw_flow.specs.declared.flow.Block.{Block}
@@ -60,7 +61,19 @@ blocks_now w rows bs k row b made old new lt low is_row is e so_far pushed =
     pushed ∙ ap (λ (x : Block). old ++ x ∷ []) e ∙ ap (λ (xs : List Block). xs ++ rewritten_block w row b ∷ []) so_far
     ∙ sym (blocks_more w rows bs k row b lt low (get_or_default rows k row [] low ∙ sym is_row) (sym is))
 
--- rows that are not spent yet stay
-pub rest_now : (rows now : List (List Flat)) (place : ℕ) (row : List Flat) → ((j : ℕ) → place ≤ j → get_or now j [] ≡ get_or rows j []) → (j : ℕ) → place + 1 ≤ j
-    → get_or (set now place row) j [] ≡ get_or rows j []
-rest_now rows now place row rest j le = get_or-set_other now place j row [] (λ same. absurd (omega (arith, same, le))) ∙ rest j (omega (arith, le))
+-- what a loan of all of the items leaves
+pub all_written : {X : Type 0} (n : ℕ) (xs ys : List X) → length xs ≡ n → length ys ≡ n → take n (xs ++ drop (length xs) ys) ≡ xs
+all_written n xs ys hx hy = grind (arith, common_steps)
+
+-- what is in place so far, with one more
+pub take_set : {X : Type 0} (xs : List X) (k : ℕ) (x : X) → k < length xs → take (k + 1) (set xs k x) ≡ take k xs ++ x ∷ []
+take_set [] k x lt = absurd (omega (arith, lt))
+take_set (y ∷ ys) zero x lt = refl
+take_set {X = X} (y ∷ ys) (suc k) x lt =
+    let longer : suc k + 1 ≡ suc (k + 1) = omega arith in
+    ap (λ (n : ℕ). take n (y ∷ set ys k x)) longer ∙ ap (λ (zs : List X). y ∷ zs) (take_set ys k x (omega (arith, lt)))
+
+-- what is not rewritten yet, and rows that are not spent yet, stay
+pub rest_now : {X : Type 0} (d : X) (rows now : List X) (place : ℕ) (row : X) → ((j : ℕ) → place ≤ j → get_or now j d ≡ get_or rows j d) → (j : ℕ) → place + 1 ≤ j
+    → get_or (set now place row) j d ≡ get_or rows j d
+rest_now d rows now place row rest j le = get_or-set_other now place j row d (λ same. absurd (omega (arith, same, le))) ∙ rest j (omega (arith, le))

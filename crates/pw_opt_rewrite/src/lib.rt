@@ -5,5 +5,5 @@ mod blocks;
 mod operands;
 
 pub use blocks::rewrite;
-pub use operands::{end_with_originals, original, with_originals};
+pub use operands::{end_with_originals, have_originals, original, with_originals};
 pub use pw_live_outline::{numbers, op_defines};

@@ -1,6 +1,11 @@
 mod Joining
+mod Elements
+mod Viewing
+mod Away
 mod Ways
+mod Forgetting
 mod Gathering
 mod Steps
 mod Entering
+mod Solving
 mod Least

@@ -1,3 +1,5 @@
 pub mod Joins
+pub mod Places
+pub mod Seeing
 pub mod Outflows
 pub mod RowLaws

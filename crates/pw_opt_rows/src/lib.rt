@@ -5,10 +5,14 @@
 mod edges;
 mod flats;
 mod fronts;
+mod laws;
 mod rewriting;
 mod row;
 mod rows;
+mod view;
 
 pub use fronts::find_fronts;
+pub use laws::solutions_exist;
 pub use rewriting::Rewriting;
 pub use row::Row;
+pub use view::View;

@@ -10,3 +10,10 @@ pub enum Flat {
     /// Nothing, or not the same on every path.
     Many,
 }
+
+/// Where nothing else is said, no path is known.
+impl Default for Flat {
+    fn default() -> Flat {
+        Flat::Bottom
+    }
+}

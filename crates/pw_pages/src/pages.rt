@@ -74,7 +74,7 @@ impl Pages {
         half_in(self.pages[a / 4 / PAGE][a / 4 % PAGE], a % 4)
     }
 
-    /// The byte at an address.
+    /// The byte at an address within the memory, as a word of 0 to 255.
     #[inline(always)]
     pub fn byte_at(&self, a: usize) -> u32
         requires { a < length self.now }

@@ -48,7 +48,8 @@ pub trait SmallerParts<'a> {
         ensures { Reads view_declared ((parsers self.now).declarator place typed tokens.old) result tokens.new };
 }
 
-/// Specifiers, one or more.
+/// Reads declaration specifiers, one or more (C90 6.5), with a storage class among them where `storage` allows it; a
+/// fault where none stands.
 #[tactic(auto, using(crate::proofs::Shown::none_shown), unfolding(pw_parse_grammar::specs::Expressions::some_specifiers))]
 pub fn some_specifiers<'a, P: SmallerParts<'a>>(
     alloc: Global,

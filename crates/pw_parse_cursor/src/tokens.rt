@@ -238,7 +238,8 @@ impl<'a> Tokens<'a> {
         }
     }
 
-    /// Whether a name is visible as a typedef name.
+    /// Whether an identifier is a typedef name at this place of the text (C90 6.5.6): its visible declaration has
+    /// `typedef`.
     #[tactic(auto, unfolding(pw_parse_grammar::specs::Input::is_typedef_name))]
     pub fn is_typedef_name(&self, name: &[u8]) -> bool
         ensures { result ≡ spec.is_typedef_name self.now name.now }

@@ -267,7 +267,7 @@ pub fn assigns(lexeme: Lexeme<'_>) -> Option<AssignOperator>
     }
 }
 
-/// The specifier is a type specifier.
+/// Whether a specifier is a type specifier (C90 6.5.2), and so neither a storage class nor a qualifier.
 #[tactic(auto, unfolding(pw_tree::specs::Views::view_expr))]
 pub fn is_type(specifier: &Specifier) -> bool
     ensures { result ≡ has_type (view_specifier specifier.now NoSpecifier) }

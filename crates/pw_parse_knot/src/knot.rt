@@ -110,7 +110,8 @@ pub fn read_specifiers<'a>(
     specifiers_of(alloc, &smaller, tokens, storage)
 }
 
-/// A declarator.
+/// Reads a declarator (C90 6.5.4), of a kind that `place` allows, behind a type specifier or not. One nested deeper
+/// than `depth` is a fault.
 #[cycle(parts)]
 pub fn read_declarator<'a>(
     alloc: Global,

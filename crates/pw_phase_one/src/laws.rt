@@ -34,7 +34,8 @@ pub fn typed_texts_are_exact()
     checks_is_exact();
 }
 
-/// No refusal of a module is one for want of memory.
+/// Where the first phase refuses a module, by the definitions alone, it tells a fault of the text: none of its
+/// refusals stands for memory.
 pub fn no_refusal_is_want_of_memory()
     ensures { (name text : List ℕ) (refusal : Refusal) → compiled name text ≡ Err refusal → HoldsNoWant refusal }
 {

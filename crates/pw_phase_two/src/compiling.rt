@@ -23,8 +23,8 @@ use pw_value::Name;
 use pw_webflow::direct;
 use std::alloc::{AllocError, Global};
 
-/// A function under its directives, with places.
-fn locate(alloc: Global, f: &FlowFn, d: &Directives) -> Result<Located, AllocError>
+/// A function under its directives, with the places of its temporaries. Fails only for want of memory.
+pub fn locate(alloc: Global, f: &FlowFn, d: &Directives) -> Result<Located, AllocError>
     requires function { IsFunction f.now }
     requires directives { IsDirectives d.now }
     ensures value { IfOk result (λ l. l ≡ allocated (directed f.now d.now)) }

@@ -2,13 +2,13 @@
 #![tactic(auto)]
 
 mod compiling;
-mod copying;
 mod directives;
 pub mod laws;
 mod numbers;
 mod origin;
 mod phases;
 
+pub use compiling::locate;
 pub use directives::directives_for;
 pub use origin::{Origin, origin_of};
 pub use phases::{object_of, phase_two};

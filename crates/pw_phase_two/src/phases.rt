@@ -11,10 +11,9 @@ ghost use Rattle.pw_phase_two.specs.Origins.{IsOriginOf};
 ghost use Rattle.pw_phase_two.specs.Phases.{AreDirectivesOf, IsObjectOf, all_compiled};
 
 use crate::compiling::compile_all;
-use crate::copying::copy_globals;
 use crate::origin::{Origin, origin_of};
 use pw_db::Directives;
-use pw_flow::{FlowGlobal, FlowModule};
+use pw_flow::{FlowGlobal, FlowModule, copy_globals};
 use pw_items::Items;
 use pw_object::{Object, ObjectFn, VERSION};
 use pw_summarise::{Interface, interface_of};

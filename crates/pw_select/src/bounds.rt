@@ -146,7 +146,8 @@ fn put_entry(alloc: Global, out: &mut Items<Line>, frame: u32) -> Result<(), All
     put_copy(out, HELP, STACK_POINTER)
 }
 
-/// The prologue.
+/// Puts a function's first lines: the test of the stack and the frame, the registers that it saves, the globals that
+/// it loads into registers, and its parameters brought to their places.
 pub fn put_prologue(alloc: Global, out: &mut Items<Line>, f: &Located) -> Result<(), AllocError>
     requires { IsFrame f.now }
     ensures { OnOk result (out.new ≡ out.old ++ prologue f.now) }

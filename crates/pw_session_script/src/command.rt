@@ -112,7 +112,8 @@ fn long_command<'a>(word: &[u8], words: &'a [u8]) -> Option<Command<'a>>
     }
 }
 
-/// The command of a line.
+/// The command of a script's line without its newline: `build`, `remove FILE`, `put FILE COUNT` or `run COUNT`, whose
+/// count tells the bytes behind the line; None where the line is no command, or its count is above the limit.
 pub fn command_of(line: &[u8]) -> Option<Command<'_>>
     ensures command { option_map command_view result ≡ command_of line.now }
     ensures lawful { IfSome result (λ command. IsLawfulCommand (command_view command)) }

@@ -14,6 +14,6 @@ pub use file_names::{
     module_file, names_of_files,
 };
 pub use laws::modules_are_exact;
-pub use limits::{MODULE_NAME_LIMIT, limit_of_module_names};
-pub use modules::{Module, is_module_file, is_module_name};
+pub use limits::{MODULE_NAME_LIMIT, TEXT_READ, limits_of_modules};
+pub use modules::{Module, is_module_file, is_module_name, stem};
 pub use sources::{module_files_of, read_sources};

@@ -8,14 +8,11 @@ ghost use Rattle.pw_store_modules.specs.Modules.{IsModuleFile, modules_of, names
 ghost use Rattle.pw_store_modules.specs.Reading.{source_of, sources_of};
 ghost use Rattle.pw_store_modules.specs.Views.{source};
 
+use crate::limits::TEXT_READ;
 use crate::modules::{Module, module_files, stem};
 use pw_io::{Store, StoreError};
-use pw_token::TEXT_LIMIT;
 use pw_value::Name;
 use std::alloc::{AllocError, Global};
-
-/// The greatest count of bytes that is read of a module's text: one more than a text may have.
-const TEXT_READ: usize = TEXT_LIMIT + 1;
 
 /// Reads a module's text.
 fn read_source<S: Store>(

@@ -8,12 +8,9 @@ ghost use Rattle.pw_store_texts.specs.Headers.{header_in, headers_among, headers
 
 use pw_cpp::is_header;
 use pw_io::{Store, StoreError};
-use pw_token::TEXT_LIMIT;
+use pw_store_modules::TEXT_READ;
 use pw_value::Name;
 use std::alloc::Global;
-
-/// The greatest count of bytes that is read of a file: one more than a text may have.
-pub const TEXT_READ: usize = TEXT_LIMIT + 1;
 
 /// Puts a header with its text behind others, where a file is one. A file that is gone is left out.
 fn add_header<S: Store>(

@@ -17,7 +17,7 @@ pub fn sources_come_to_one()
     one_output();
 }
 
-/// The files of a store are seen in one way.
+/// A build sees the files of a store in one way: what its C sources come to leaves no choice.
 pub fn files_are_seen_in_one_way()
     ensures { (files shown other : Files) → IsSeen files shown → IsSeen files other → shown ≡ other }
 {

@@ -12,14 +12,13 @@ ghost use Rattle.pw_store_texts.specs.Seen.{AnswersPreprocessed, AnswersSeen, fi
 
 use crate::bytes::text_bytes;
 use crate::compiled::Compiled;
-use crate::headers::TEXT_READ;
 use crate::place::put_module;
 use crate::sources::compile_sources;
 use pw_cpp::CppFault;
 use pw_io::laws::{front, names, other_files};
 use pw_io::{Store, StoreError};
 use pw_store_modules::{
-    Module, ModulesFault, module_files_of, modules_are_exact, read_modules, read_sources,
+    Module, ModulesFault, TEXT_READ, module_files_of, modules_are_exact, read_modules, read_sources,
 };
 use pw_value::Name;
 use pw_value::limits::{MODULE_LIMIT, TEXTS_LIMIT};

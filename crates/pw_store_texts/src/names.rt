@@ -1,21 +1,13 @@
 //! Names of files whose bytes are texts.
 
 ghost use Rattle.std.specs.Prelude.{◌≡◌, IfOk, true};
-ghost use Rattle.pw_store_modules.specs.Modules.{is_module_name, stem};
+ghost use Rattle.pw_store_modules.specs.Modules.{is_module_name};
 ghost use Rattle.pw_store_texts.specs.Names as spec;
 
 use pw_cpp::is_header;
 use pw_store_modules::{is_module_file, is_module_name, module_file};
 use pw_value::Name;
 use std::alloc::{AllocError, Global};
-
-/// The name of a file without its last two bytes.
-pub fn stem(file: &str) -> &[u8]
-    ensures { result.now ≡ stem file.now }
-{
-    let bytes = file.as_bytes();
-    bytes.split_at(bytes.len().saturating_sub(2)).0
-}
 
 /// The ending of the file of a module's C source, behind the module's name.
 pub const SOURCE_ENDING: &str = ".c";

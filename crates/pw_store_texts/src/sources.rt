@@ -9,11 +9,12 @@ ghost use Rattle.pw_store_texts.specs.Seen.{AllCome, StoreComes, outcome, source
 ghost use Rattle.pw_store_texts.specs.Views.{named_text};
 
 use crate::compiled::Compiled;
-use crate::headers::{TEXT_READ, headers_among};
-use crate::names::{is_source_file, stem};
+use crate::headers::headers_among;
+use crate::names::is_source_file;
 use crate::outputs::preprocess_source;
 use crate::source::Source;
 use pw_io::{Store, StoreError};
+use pw_store_modules::{TEXT_READ, stem};
 use pw_value::Name;
 use std::alloc::{AllocError, Global};
 

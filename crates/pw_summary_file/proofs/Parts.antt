@@ -16,7 +16,8 @@ use Rattle.pw_summary.specs.declared.summary.Defined.{Defined}
 use Rattle.pw_summary.specs.declared.summary.Used.{Used}
 use Rattle.pw_summary.specs.declared.summary.Summary.{Summary}
 use Rattle.pw_summary.specs.declared.summary.Uses.{Uses}
-use Rattle.pw_summary_file.specs.Reading.{global_at, uses_at, defined_at, used_at, fields_at}
+use Rattle.pw_summary_parts.specs.Reading.{global_at, uses_at}
+use Rattle.pw_summary_file.specs.Reading.{defined_at, used_at, fields_at}
 use Rattle.pw_summary.specs.Summary.{whole_summary}
 
 -- ---- what stands behind several fields

@@ -13,7 +13,8 @@ use Rattle.pw_summary.specs.declared.summary.Defined.{Defined}
 use Rattle.pw_summary.specs.declared.summary.Used.{Used}
 use Rattle.pw_summary.specs.declared.summary.Summary.{Summary}
 use Rattle.pw_summary.specs.Summary.{whole_summary, kind, first_version, summary_version}
-use Rattle.pw_summary_file.specs.Reading.{global_at, weight_at, reference_at, some_need_at, uses_at, defined_at, used_at, last_rules, fields_at, summary_file_at}
+use Rattle.pw_summary_parts.specs.Reading.{global_at, weight_at, reference_at, some_need_at, uses_at}
+use Rattle.pw_summary_file.specs.Reading.{defined_at, used_at, last_rules, fields_at, summary_file_at}
 
 global_onward : (names : List (List ℕ)) (before : Option (List ℕ)) → Onward (global_at names before)
 unfolding global_at

@@ -31,8 +31,10 @@ use Rattle.pw_files.proofs.ContentsLaws as files
 use Rattle.pw_summary.specs.declared.summary.Uses.{Uses}
 use Rattle.pw_summary.specs.declared.summary.Summary.{Summary}
 use Rattle.pw_summary.specs.Summary.{global_names, function_names, IsUses, IsSummary, IsVersioned, kind, first_version, summary_version, weight_bound, need_limit}
-use Rattle.pw_summary_file.specs.Spelling.{global, reference, need, uses, others, names_of_uses, names_of, FitsUses, FitsSummary, spelling, IsSummaryContents, IsSummaryFile}
-use Rattle.pw_summary_file.specs.Reading.{global_at, weight_at, reference_at, some_need_at, need_at, uses_at, last_rules, fields_at, summary_file_at}
+use Rattle.pw_summary_parts.specs.Spelling.{global, reference, need, uses, names_of_uses, FitsUses}
+use Rattle.pw_summary_file.specs.Spelling.{others, names_of, spelling, IsSummaryContents, IsSummaryFile}
+use Rattle.pw_summary_parts.specs.Reading.{global_at, weight_at, reference_at, some_need_at, need_at, uses_at}
+use Rattle.pw_summary_file.specs.Reading.{last_rules, fields_at, summary_file_at}
 use Rattle.pw_summary_file.proofs.Parts.{row_at, in_a_row}
 
 -- ---- items

@@ -14,7 +14,8 @@ use Rattle.pw_files.proofs.ContentsLaws as files
 use Rattle.pw_summary.specs.declared.summary.Uses.{Uses}
 use Rattle.pw_summary.specs.declared.summary.Summary.{Summary}
 use Rattle.pw_summary.specs.Summary.{global_names, function_names, IsVersioned, kind, first_version, summary_version}
-use Rattle.pw_summary_file.specs.Spelling.{AreNamed, IsNamedBy, IsSummaryContents, IsSummaryFile, FitsSummary, names_of_uses, names_of, spelling}
+use Rattle.pw_summary_parts.specs.Spelling.{AreNamed, names_of_uses}
+use Rattle.pw_summary_file.specs.Spelling.{IsNamedBy, IsSummaryContents, IsSummaryFile, FitsSummary, names_of, spelling}
 
 named : {X : Type 0} (key : X → List ℕ) (names : List (List ℕ)) (xs : List X) → AllUsed (map key xs) names → All (λ x. Contains names (key x)) xs
 named key names xs used = All-from_recursion (λ x. Contains names (key x)) xs (each_by_used key names xs used)

@@ -32,7 +32,7 @@ impl Format {
     }
 }
 
-/// The format of this name.
+/// The format that a row's word names, or None where it names none.
 pub fn format_of(word: &str) -> Option<Format> {
     match word {
         "flow" => Some(Format::Flow),

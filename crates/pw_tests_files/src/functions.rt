@@ -17,7 +17,7 @@ fn push_function(text: &mut Text, function: &ObjectFn) {
     push_value(text, &function.fixes.as_slice());
 }
 
-/// Adds functions.
+/// Adds a bar and then each function of an object file.
 pub fn push_functions(text: &mut Text, functions: &[ObjectFn]) {
     text.push(b" |");
     for function in functions {

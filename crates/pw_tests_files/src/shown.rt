@@ -24,7 +24,7 @@ pub fn push_row<D: Debug>(text: &mut Text, first: &[u8], second: &[u8], value: &
     push_value(text, value);
 }
 
-/// Adds names.
+/// Adds a bar and then each name as a word.
 pub fn push_names(text: &mut Text, names: &[Name]) {
     text.push(b" |");
     for name in names {

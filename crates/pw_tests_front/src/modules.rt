@@ -9,7 +9,7 @@ use std::alloc::{AllocError, Global};
 /// Parts of a text, with how often each stands.
 pub type Parts = &'static [(&'static [u8], usize)];
 
-/// The text of the parts.
+/// A text of parts in order, each written as often as its count says.
 pub fn text_of(alloc: Global, parts: &[(&[u8], usize)]) -> Result<Vec<u8>, AllocError> {
     let mut text = Vec::new(alloc);
     for (part, count) in parts {

@@ -47,7 +47,7 @@ pub fn renew(text: &mut Text, store: &mut MemStore, row: &str) {
     }
 }
 
-/// Puts a file.
+/// Puts a file into the store; where that fails, the row's text is cut off.
 pub fn put_file<S: Store>(text: &mut Text, store: &mut S, name: &str, bytes: &[u8]) {
     if store.put(text.alloc(), name, bytes).is_err() {
         text.cut();
@@ -69,7 +69,7 @@ pub fn put_many<S: Store>(text: &mut Text, store: &mut S, count: &str, bytes: &[
     }
 }
 
-/// Removes a file.
+/// Takes a file out of the store; where that fails, the row's text is cut off.
 pub fn remove_file<S: Store>(text: &mut Text, store: &mut S, name: &str) {
     if store.remove(text.alloc(), name).is_err() {
         text.cut();

@@ -51,7 +51,7 @@ impl Shape {
         self.piece(kind);
     }
 
-    /// The beginning of a list.
+    /// Opens a list of parts, behind a blank where one is due.
     pub fn open_list(&mut self) {
         self.blank();
         self.push(b"(");
@@ -73,7 +73,7 @@ impl Shape {
         self.piece(b"-");
     }
 
-    /// A keyword as a piece.
+    /// Adds a keyword as it is spelled, behind a blank where one is due.
     pub fn keyword(&mut self, keyword: Keyword) {
         self.piece(keyword.text());
     }

@@ -71,7 +71,7 @@ pub fn byte_at(text: &[u8], at: usize) -> u8
     if at < text.len() { text[at] } else { 0 }
 }
 
-/// The text from a place on.
+/// What is left of a text from offset `at` on: nothing, where it is past the end.
 pub fn text_from(text: &[u8], at: usize) -> &[u8]
     ensures { result.now ≡ drop at text.now }
 {

@@ -17,7 +17,7 @@ mod roles;
 mod symbol;
 mod token;
 
-pub use bytes::{Class, is_in, simple_escape};
+pub use bytes::{Class, byte_at, is_in, simple_escape, text_from};
 pub use features::unsupported;
 pub use laws::{limits_of_a_text, one_cutting, piece_at_is_exact, tokens_stand_in_order};
 pub use lexer::{TEXT_LIMIT, TOKEN_LIMIT, lex};

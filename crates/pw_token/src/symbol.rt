@@ -174,7 +174,7 @@ const KEYWORDS: [Keyword; 32] = [
 ];
 
 impl Keyword {
-    /// Its bytes.
+    /// How the keyword is spelled (C90 6.1.1), in ASCII.
     pub fn text(self) -> &'static [u8]
         ensures { result.now ≡ spec.keyword_text self }
     {
@@ -281,7 +281,7 @@ pub const MARKS: [Mark; 46] = [
 ];
 
 impl Mark {
-    /// Its bytes.
+    /// How the operator or punctuator is spelled (C90 6.1.5, 6.1.6), in ASCII.
     pub fn text(self) -> &'static [u8]
         ensures { result.now ≡ spec.mark_text self }
     {

@@ -69,7 +69,7 @@ fn limit_name(which: CppWhich) -> &'static [u8]
     }
 }
 
-/// The name of a kind of halt.
+/// The word by which a line tells why the machine halted.
 pub fn halt_name(halt: Halt) -> &'static [u8]
     ensures { result.now ≡ halt_name halt }
 {
@@ -442,7 +442,7 @@ pub enum Line {
 }
 
 impl Line {
-    /// Its bytes.
+    /// The line in ASCII with its newline; no bytes for an answer of which nothing is told.
     pub fn as_bytes(&self) -> &[u8]
         ensures { result.now ≡ line_bytes self.now }
     {

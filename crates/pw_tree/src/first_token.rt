@@ -49,7 +49,7 @@ impl Expr {
 }
 
 impl Specifier {
-    /// The number of its first token.
+    /// The number, in the module's list of tokens, of the token with which the specifier begins.
     #[tactic(auto, unfolding(crate::specs::Views::view_expr, crate::specs::FirstTokens::first_of_specifiers))]
     pub fn first_token(&self) -> usize
         ensures { Some result ≡ first.first_of_specifiers (view.view_specifier self.now NoSpecifier) }
@@ -137,7 +137,8 @@ impl Declarator {
 }
 
 impl Parameter {
-    /// The number of its first token.
+    /// The number of the token with which the parameter begins: that of its first specifier, or of its declarator
+    /// where it has none.
     pub fn first_token(&self) -> Option<usize>
         ensures { result ≡ first.first_of_parameter (view.view_specifiers self.now.specifiers.items) (view.view_declarator self.now.declarator) }
     {
@@ -164,7 +165,7 @@ impl MemberDeclarator {
 }
 
 impl Label {
-    /// The number of its first token.
+    /// The number of the token with which the label begins: `case`, `default` or its name.
     pub fn first_token(&self) -> usize
         ensures { result ≡ first.first_of_label (view.view_label self.now) }
     {

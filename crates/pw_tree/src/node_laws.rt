@@ -28,7 +28,8 @@ ghost use Rattle.pw_tree.specs.declared.stmt.ElseIf.{ElseIf};
 ghost use Rattle.pw_tree.specs.declared.stmt.Stmt as stmt;
 ghost use Rattle.pw_tree.specs.declared.stmt.Stmt.{Stmt};
 
-/// What expressions with lists in them show.
+/// A contract sees an expression with a list or a type name in it as the plain tree of its operands and of what the
+/// list shows.
 pub fn expressions_show_their_lists()
     ensures postfix { (b : Box Expr Global) (ps : Vec PostfixOperation Global) → view_expr (expr.Postfix b ps) ≡ tree.Postfix (view_expr b.value) (view_postfixes ps.items) }
     ensures chain { (b : Box Expr Global) (os : Vec Operation Global) → view_expr (expr.Chain b os) ≡ tree.Chain (view_expr b.value) (view_operations os.items) }

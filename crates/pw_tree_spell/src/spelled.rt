@@ -52,7 +52,7 @@ impl Writer {
         }
     }
 
-    /// A keyword as a token.
+    /// Adds a keyword, as it is spelled, behind the tokens so far.
     pub fn keyword(&mut self, keyword: Keyword)
         ensures { Writes (λ z. spec.Reserved keyword ∷ z) self.old self.new }
     {

@@ -21,7 +21,7 @@ pub fn is_integral(ty: &CType) -> bool
     }
 }
 
-/// Whether the type is a pointer.
+/// Whether a type is a pointer to an object or a function (C90 6.1.2.5); an array is none.
 #[tactic(auto, unfolding(crate::specs::Views::view_type), using(crate::proofs::ViewLemmas::signature_view))]
 pub fn is_pointer(ty: &CType) -> bool
     ensures { result ≡ spec.is_pointer (view_type ty.now) }
@@ -40,7 +40,7 @@ pub fn is_scalar(ty: &CType) -> bool
     is_integral(ty) || is_pointer(ty)
 }
 
-/// Whether a type is `void`.
+/// Whether a type is `void` itself (C90 6.1.2.5), not a pointer to it.
 #[tactic(auto, unfolding(crate::specs::Views::view_type), using(crate::proofs::ViewLemmas::signature_view))]
 pub fn is_void(ty: &CType) -> bool
     ensures { result ≡ spec.is_void (view_type ty.now) }
@@ -55,7 +55,7 @@ pub fn is_void(ty: &CType) -> bool
     }
 }
 
-/// Whether the type is an array.
+/// Whether a type is an array (C90 6.1.2.5), of whatever elements and count.
 #[tactic(auto, unfolding(crate::specs::Views::view_type), using(crate::proofs::ViewLemmas::signature_view))]
 pub fn is_array(ty: &CType) -> bool
     ensures { result ≡ spec.is_array (view_type ty.now) }
@@ -67,7 +67,7 @@ pub fn is_array(ty: &CType) -> bool
     }
 }
 
-/// Whether a type is that of a function.
+/// Whether a type is a function type (C90 6.1.2.5), not a pointer to one.
 #[tactic(auto, unfolding(crate::specs::Views::view_type), using(crate::proofs::ViewLemmas::signature_view))]
 pub fn is_function(ty: &CType) -> bool
     ensures { result ≡ spec.is_function (view_type ty.now) }

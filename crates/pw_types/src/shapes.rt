@@ -11,7 +11,9 @@ use crate::types::Types;
 use pw_value::{Shape, push_decimal};
 use std::alloc::{AllocError, Global};
 
-/// The shape of a type.
+/// The shape of a type, the text by which modules and calls are compared: a letter for a scalar or void, counts for
+/// arrays, the members of structures and unions, the parameters and results of functions, and what is volatile. Fails
+/// only for want of memory.
 pub fn shape(alloc: Global, types: &Types, ty: &QType) -> Result<Shape, AllocError>
     ensures { IfOk result (λ shape. shape ≡ spec.shape_of types.now (view_type ty.now.ty) ty.now.volatile) }
 {

@@ -107,7 +107,8 @@ pub fn names_of_a_program()
     ensures putchar_shape { PUTCHAR_SHAPE.now ≡ putchar_shape }
 {}
 
-/// The tests of the rules on `$start` are the rules.
+/// The two decidable tests hold exactly where the rules do: whether a name may stand at a place (`MayStand`), and
+/// whether a module has `$start` beside `main`, once, and as no object (`KeepsStart`).
 pub fn start_tests_are_the_rules()
     ensures place { (start : AnyStartName) (name : List ℕ) → IsTrue (may_stand start name) ↔ MayStand start name }
     ensures module { (functions globals : List (List ℕ)) → IsTrue (keeps_start functions globals) ↔ KeepsStart functions globals }

@@ -290,7 +290,8 @@ pub fn signed_results_are_unsigned()
     ensures negation { (a s : ℕ) → a < 2 ^ 32 → spec.signed_negation a ≡ Ok s → s ≡ spec.unsigned_negation a }
 {}
 
-/// A result that there is, is a word.
+/// Where a signed quotient, remainder or right shift of words has a result (ISO C90 6.3.5, 6.3.7), it is a word:
+/// below 2 to the 32nd.
 pub fn results_are_words()
     ensures quotient { (a b s : ℕ) → a < 2 ^ 32 → b < 2 ^ 32 → spec.signed_quotient a b ≡ Ok s → s < 2 ^ 32 }
     ensures remainder { (a b s : ℕ) → a < 2 ^ 32 → b < 2 ^ 32 → spec.signed_remainder a b ≡ Ok s → s < 2 ^ 32 }

@@ -9,18 +9,11 @@ use pw_items::Items;
 use pw_value::{Kind, Name, Shape};
 use std::alloc::{AllocError, Global};
 
-/// The same numbers again.
-pub fn copy_numbers(alloc: Global, numbers: &[u32]) -> Result<Items<u32>, AllocError>
-    ensures { IfOk result (λ v. v ≡ numbers.now) }
-{
-    Ok(Items::from_vec(Vec::from_slice(alloc, numbers)?))
-}
-
 /// The same call of a function by its name again.
 fn copy_call(alloc: Global, t: Option<u32>, f: &Name, args: &[u32]) -> Result<Op, AllocError>
     ensures { IfOk result (λ o. o ≡ flow.Call t f.now args.now) }
 {
-    let args = copy_numbers(alloc, args)?;
+    let args = Items::from_slice(alloc, args)?;
     Ok(Op::Call(t, f.copy(alloc)?, args))
 }
 
@@ -34,7 +27,7 @@ fn copy_call_ind(
 ) -> Result<Op, AllocError>
     ensures { IfOk result (λ o. o ≡ flow.CallInd t a shape.now args.now) }
 {
-    let args = copy_numbers(alloc, args)?;
+    let args = Items::from_slice(alloc, args)?;
     Ok(Op::CallInd(t, a, shape.copy(alloc)?, args))
 }
 
@@ -123,7 +116,7 @@ impl WebFn {
         ensures { IfOk result (λ f. f ≡ self.now) }
     {
         let blocks = copy_web_blocks(alloc, self.blocks.as_slice())?;
-        let slots = copy_numbers(alloc, self.slots.as_slice())?;
+        let slots = Items::from_slice(alloc, self.slots.as_slice())?;
         Ok(WebFn {
             name: self.name.copy(alloc)?,
             shape: self.shape.copy(alloc)?,

@@ -6,7 +6,7 @@ ghost use Rattle.pw_flow.specs.ValidFlow.{IsFunction};
 ghost use Rattle.pw_db.specs.Database.{IsDirectives};
 ghost use Rattle.pw_webflow.specs.ValidWebs.{IsWebFn};
 
-use crate::copying::{copy_numbers, copy_op};
+use crate::copying::copy_op;
 use crate::web::{WebBlock, WebFn, WebOp};
 use pw_db::{Directives, Role, Web};
 use pw_flow::{Block, FlowFn, Op};
@@ -87,7 +87,7 @@ fn apply(alloc: Global, f: &FlowFn, d: &Directives) -> Result<WebFn, AllocError>
     ensures { IfOk result (λ r. r ≡ directed f.now d.now) }
 {
     let blocks = direct_blocks(alloc, d.webs.as_slice(), f.blocks.as_slice())?;
-    let slots = copy_numbers(alloc, f.slots.as_slice())?;
+    let slots = Items::from_slice(alloc, f.slots.as_slice())?;
     Ok(WebFn {
         name: f.name.copy(alloc)?,
         shape: f.shape.copy(alloc)?,

@@ -13,7 +13,7 @@ ghost use Rattle.pw_debug.specs.Walk.{Seen, WalksTo};
 ghost use Rattle.pw_where.specs.Calls.{IsCall, Passes};
 ghost use Rattle.pw_where.specs.Looks.{Shows};
 
-/// A run has one call of a number.
+/// The `k`-th call of a run comes behind one number of steps and in one state of the machine.
 pub fn a_run_has_one_call()
     ensures step { (entries : List ℕ) (start : State) (k m n : ℕ) (s t : State) → IsCall entries start k m s → IsCall entries start k n t → m ≡ n }
     ensures state { (entries : List ℕ) (start : State) (k m n : ℕ) (s t : State) → IsCall entries start k m s → IsCall entries start k n t → s ≡ t }

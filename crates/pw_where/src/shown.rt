@@ -6,7 +6,7 @@ ghost use Rattle.pw_where.specs.Shown.{shown_as, shown_one, shown_of, IsByName};
 ghost use Rattle.pw_where.specs.Looks.{globals_of};
 
 use crate::numbers::{Number, is_hidden, number_of_shape};
-use pw_flow::FlowGlobal;
+use pw_flow::{FlowGlobal, add_globals};
 use pw_image::GlobalObject;
 use pw_object::Object;
 use pw_value::Shape;
@@ -17,19 +17,6 @@ use std::alloc::{AllocError, Global};
 pub struct Shown {
     pub object: GlobalObject,
     pub number: Number,
-}
-
-/// Adds the globals of a module.
-fn add_globals<'a>(
-    all: &mut Vec<&'a FlowGlobal>,
-    globals: &'a [FlowGlobal],
-) -> Result<(), AllocError>
-    ensures { OnOk result (map (λ g. g.now) all.new.items ≡ map (λ g. g.now) all.old.items ++ globals.now) }
-{
-    for each in globals {
-        all.push(each)?;
-    }
-    Ok(())
 }
 
 /// The globals of the modules.

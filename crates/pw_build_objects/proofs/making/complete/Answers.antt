@@ -1,13 +1,16 @@
 use Rattle.std.proofs.Common.{List, rules, ⊎_elim, inl, inr, length, subst, sym}
 use Rattle.std.specs.List.{AllByRecursion}
 use Rattle.std.proofs.lemmas.Result.{IfErr-weaker, IfOk-weaker}
+use Rattle.pw_flow.specs.declared.flow.FlowModule.{FlowModule}
+use Rattle.pw_summary.specs.declared.summary.Summary.{Summary}
 use Rattle.pw_build_objects.specs.Choosing.{marks_of, objects_of}
 use Rattle.pw_build_objects.proofs.CountLemmas.{bound_as_many, broken_counted, made_counted}
 use Rattle.pw_build_objects.proofs.LoopLemmas.{bound_none}
 use Rattle.pw_build_objects.proofs.PreparedParts.{completed, parts_with, prepared_parts}
-use Rattle.pw_build_objects.proofs.RoomLaws.{new_objects_link}
+use Rattle.pw_build_objects.proofs.ShownLaws.{plain_objects_link}
 use Rattle.pw_build_objects.specs.declared.remade.Made.{Made}
 use Rattle.pw_build_objects.specs.Programs.{WasMade}
+use Rattle.pw_build_objects.specs.Showing.{ShowWhereKept}
 use Rattle.pw_build_objects.proofs.WereMade.{were_made}
 use Rattle.pw_build_objects.proofs.making.complete.Goals as goal
 
@@ -20,10 +23,13 @@ all_objects-requires g c = record {
 }
 
 pub linked-requires-clause-rules : goal.linked-requires-clause-rules
-linked-requires-clause-rules g c =
-    new_objects_link c.objects_are_refused_for_room_alone.ensures.links c.args.flows.items c.args.kept.items c.args.opts.now
-    (parts_with c.in_ok-prepared.prepared c.in_ok-made.made.items) c.requires.declares
-    (prepared_parts c.args.flows.items c.args.kept.items c.args.opts.now c.in_ok-prepared.prepared c.in_ok-made.made.items c.requires.lawful c.in_ok-prepared.ensures.prepared c.in_ok-made.ensures.objects)
+linked-requires-clause-rules g c = λ t.
+    let forms = c.in_ok-prepared.prepared.forms.items in
+    let by_forms = subst (λ (fs : List FlowModule). ShowWhereKept fs c.args.kept.items fs c.deref-2.result.now) c.deref.ensures.value (c.show_no_more-plain.ensures t) in
+    let shown = subst (λ (ss : List Summary). ShowWhereKept forms c.args.kept.items forms ss) c.deref-2.ensures.value by_forms in
+    plain_objects_link c.objects_show_their_modules.ensures.made c.objects_show_their_modules.ensures.linked c.forms_keep_what_modules_have.ensures.declare c.forms_keep_what_modules_have.ensures.rules
+    c.args.flows.items c.args.kept.items c.args.opts.now.optimise c.args.opts.now.colours c.in_ok-prepared.prepared (objects_of c.in_ok-made.made.items) (marks_of c.in_ok-made.made.items)
+    c.requires.lawful c.requires.declares c.in_ok-prepared.ensures.prepared c.in_ok-made.ensures.objects shown
 
 pub returns-clause-built : goal.returns-clause-built
 returns-clause-built g c =

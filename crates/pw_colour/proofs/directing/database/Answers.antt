@@ -21,7 +21,7 @@ loop-place-preserved c =
           let there : index ≡ get_or fs i index = subst (λ (xs : List (List ℕ)). index ≡ get_or xs i index) c.as_slice-functions.ensures w.index-functions-place.is in
           let name = w.in_ok-copy.field-0 in
           let at : name ≡ get_or fs i name = subst (λ (x : List ℕ). x ≡ get_or fs i x) (sym w.in_ok-copy.ensures) there in
-          rw w.entries-is (entries_put g roots ws fs i name d c.loop-place.entries w.push.new.self lt at c.in_ok-directives.ensures (sym (c.say_something.ensures name) ∙ w.if-say_something.true) w.in_ok-push.ensures c.loop-place.invariant)
+          rw w.entries-is (entries_put g roots ws fs i name d c.loop-place.entries w.push.new.self lt at c.in_ok-directives.ensures (sym c.say_something.ensures ∙ w.if-say_something.true) w.in_ok-push.ensures c.loop-place.invariant)
       | else-say_something w ↦
-          rw w.entries-is (entries_skip g roots ws fs i (get_or fs i []) d c.loop-place.entries lt (item_at fs i [] lt) c.in_ok-directives.ensures (sym (c.say_something.ensures (get_or fs i [])) ∙ w.if-say_something.false) c.loop-place.invariant)
+          rw w.entries-is (entries_skip g roots ws fs i (get_or fs i []) d c.loop-place.entries lt (item_at fs i [] lt) c.in_ok-directives.ensures (sym c.say_something.ensures ∙ w.if-say_something.false) c.loop-place.invariant)
     ]

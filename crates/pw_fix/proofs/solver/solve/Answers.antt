@@ -63,7 +63,7 @@ spread-requires-clause-successors g c =
     let ends : All (λ n. n < length c.loop-node.inflows.items) row.items = λ k d h.
     let edge = (c.in_ok-successors.ensures.exact node (get_or row.items k d) row there).0 (Contains-get_or row.items k d h) in
     rw p.each_inflow (All-contains (λ (e : ℕ × ℕ). (e.0 < graph.nodes) × (e.1 < graph.nodes)) graph.edges.items (node, get_or row.items k d) graph.within edge).1 in
-    rw (c.deref.ensures.value, c.deref_mut.ensures.value) ends
+    rw (c.as_slice.ensures, c.deref_mut.ensures.value) ends
 
 pub spread-requires-clause-inflows : goal.spread-requires-clause-inflows
 spread-requires-clause-inflows g c =
@@ -123,12 +123,12 @@ loop-node-preserved-in-Continue-branch-3 g c =
           (λ s y z es ez.
           let sent = c.index-then-join.result.now in
           let same : sent ≡ new = c.index-then-join.ensures ∙ get_or-set_same values.items node new sent here_value in
-          let successors = c.deref.result.now in
+          let successors = c.as_slice.result.now in
           let es' : slice_get c.deref_mut.result.now s ≡ Some y = rw c.deref_mut.ensures.value es in
           subst (λ v. IsSpread (m.is_own lattice) (m.is_below lattice) (HasEdge graph.edges.items node s) v y z (IsWaiting waiting s)) same
           (spread_elsewhere (m.is_own lattice) (m.is_below lattice) order (Contains successors s) (HasEdge graph.edges.items node s) sent y z (IsWaiting waiting s) (IsWaiting waiting s)
-          (λ k. (exact s).0 (subst (λ xs. Contains xs s) c.deref.ensures.value k))
-          (λ k. subst (λ xs. Contains xs s) (sym c.deref.ensures.value) ((exact s).1 k))
+          (λ k. (exact s).0 (subst (λ xs. Contains xs s) c.as_slice.ensures k))
+          (λ k. subst (λ xs. Contains xs s) (sym c.as_slice.ensures) ((exact s).1 k))
           (c.in_ok-spread.ensures.flows s y z es' ez) (λ w. w)))
           (λ n h. elim (c.in-Some.ensures.kept n h) [ inl same ↦ inl same | inr still ↦ inr (c.in_ok-spread.ensures.kept n still) ]));
       nodes = c.in_ok-spread.ensures.nodes ∙ c.in-Some.ensures.nodes ∙ c.loop-node.invariant.nodes;

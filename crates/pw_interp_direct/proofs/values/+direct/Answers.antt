@@ -1,4 +1,4 @@
-use Rattle.std.proofs.Common.{rules, refl, Some, ap, sym}
+use Rattle.std.proofs.Common.{rules, Some, ap, sym}
 use Rattle.pw_value.specs.declared.value.Value.TheVariants as V
 use Rattle.pw_types.specs.TypedTrees as tree
 use Rattle.pw_types.specs.Views.{view_qtype}
@@ -6,7 +6,7 @@ use Rattle.pw_typed.specs.Views.{view_form}
 use Rattle.pw_cmean.specs.Evaluation.{answer_of}
 use Rattle.pw_cmean.specs.SourceRun.{calls}
 use Rattle.pw_interp_calls.specs.Views.{view_env}
-use Rattle.pw_interp_calls.proofs.AnswerLaws.{then_ok, then_err, gives, gives_as, no_memory, same}
+use Rattle.pw_interp_calls.proofs.AnswerLaws.{then_ok, then_err, gives, gives_as, same}
 use Rattle.pw_interp_direct.proofs.values.+direct.Goals as goal
 
 pub answer_of-returns-in-Number : goal.answer_of-returns-in-Number

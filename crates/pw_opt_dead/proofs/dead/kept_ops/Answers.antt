@@ -17,5 +17,5 @@ loop-op-preserved c =
     let popped = c.in-Some.ensures in
     let acts = c.args.acts.now in
     let act = c.index-acts-len.result in
-    let is = act_last m all left shorter first live kept op acts act w popped c.requires.acts (c.index-acts-len.is ∙ ap (λ (n : ℕ). get_or acts n act) c.len.ensures) in
+    let is = act_last m all left shorter first live kept op acts act w popped c.requires.acts (c.index-acts-len.is ∙ ap (λ (n : ℕ). get_or acts n act) c.len-in-Some.ensures) in
     walk_next m all left shorter first live now kept op w popped act is c.step_back.ensures.marks c.stays-stays.result c.stays-stays.ensures c.push_if.new.kept.items c.in_ok-push_if.ensures

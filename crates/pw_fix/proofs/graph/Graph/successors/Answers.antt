@@ -22,7 +22,7 @@ loop-from-preserved c =
     let exact = subst (λ fs. AreRows rows.items (take i fs)) (sym value) c.loop-from.invariant.exact in
     record {
       each = c.loop-from.invariant.each;
-      exact = subst (λ fs. AreRows (set rows.items (get_or es i (0, 0)).0 new) (take (i + 1) fs)) value (rows_more rows.items es i short exact old new there c.in_ok-push-2.ensures.items);
+      exact = subst (λ fs. AreRows (set rows.items (get_or es i (0, 0)).0 new) (take (i + 1) fs)) value (rows_more rows.items es i short exact old new there c.in_ok-push-2.ensures.ok);
     }
 
 pub returns-clause-exact : goal.returns-clause-exact

@@ -1,7 +1,0 @@
-use Rattle.std.proofs.Common.{ℕ, ◌*◌, ◌<◌, ◌≤◌}
-use Rattle.pw_fix.specs.Words.{HasBit}
-use Rattle.pw_fix.proofs.bit_row.BitRow.next_from.Given as goal
-
--- none of the words so far has one
-abbrev pub invariant-loop-k : goal.invariant-loop-k
-invariant-loop-k l = (i : ℕ) → l.from ≤ i → i < l.k * 64 → ¬ (HasBit l.self.words.items i)

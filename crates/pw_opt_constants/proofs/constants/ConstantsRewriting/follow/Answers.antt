@@ -1,0 +1,5 @@
+use Rattle.std.proofs.Common.{◌∙◌, sym}
+use Rattle.pw_opt_constants.proofs.constants.ConstantsRewriting.follow.Goals as goal
+
+pub set-requires-clause-home : goal.set-requires-clause-home
+set-requires-clause-home c = c.requires.home c.in-Some.t (sym c.op_defines.ensures ∙ c.in-Some.is)
