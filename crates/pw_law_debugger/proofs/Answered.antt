@@ -32,8 +32,7 @@ use Rattle.pw_run_agreement.specs.Agreement.{IsDefined}
 use Rattle.pw_run_languages.specs.LinkingLaws.{frame_in}
 use Rattle.pw_law_source.specs.Source.{source_runs}
 use Rattle.pw_law_layers.specs.Whole.{image_of}
-use Rattle.pw_law_told.specs.Told.{IsPause}
-use Rattle.pw_law_truth.specs.Truth.{ShowsTruth, TellTrue}
+use Rattle.pw_law_truth.specs.Truth.{IsPause, ShowsTruth, TellTrue}
 use Rattle.pw_law_debugger.specs.Debugger.{LosesUndefined, TellsTruth}
 
 -- the answers to a look at a call

@@ -12,8 +12,7 @@ use Rattle.pw_cmean.specs.Worlds.{Program}
 use Rattle.pw_run_agreement.specs.Agreement.{IsDefined}
 use Rattle.pw_run_languages.specs.LinkingLaws.{frame_in}
 use Rattle.pw_law_source.specs.Source.{source_runs}
-use Rattle.pw_law_told.specs.Told.{IsPause}
-use Rattle.pw_law_truth.specs.Truth.{TellTrue}
+use Rattle.pw_law_truth.specs.Truth.{IsPause, TellTrue}
 
 -- The lines are true of the program's k-th call over the input, if it comes to one, and is defined on the input with the frames of the
 -- image and its stack.

@@ -304,12 +304,12 @@ module _ (laws : LawsBelow) (p : source.Program) (q : Program) (d : List (List �
           }
 
       -- the call among what the program has noted
-      record IsAmong (before : List Moment) (count : ℕ) (name : List ℕ) (objects : List Thing) (moments : List flow.Moment) : Type 0 where
+      record IsAmong (before : List Moment) (count : ℕ) (name : List ℕ) (others : List Thing) (moments : List flow.Moment) : Type 0 where
         since : List Moment
         own : List Thing
         behind : List Moment
         is : noted_within free input pause.bound ≡ since ++ Called name own ∷ behind
-        alike : AreAlike (MomentKept q) (Called name own ∷ behind) (flow.Called name objects ∷ moments)
+        alike : AreAlike (MomentKept q) (Called name own ∷ behind) (flow.Called name others ∷ moments)
         long : length behind ≡ length moments
 
       is_among : (before : List Moment) (h : BothMet before) → IsAmong before h.count h.refused.refused.function.body.name h.refused.objects h.refused.before

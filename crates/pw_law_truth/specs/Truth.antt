@@ -19,7 +19,7 @@ use Rattle.pw_where.specs.Shown.{call_line, value_line}
 use Rattle.pw_where.specs.Looks.{AreShown, ShowsAt}
 use Rattle.pw_debug.specs.declared.info.FrameInfo.{FrameInfo}
 use Rattle.pw_law_calls.specs.Calls.{IsSmall}
-use Rattle.pw_law_told.specs.Told.{IsPause}
+pub use Rattle.pw_law_told.specs.Told.{IsPause}
 
 -- ---- the program
 

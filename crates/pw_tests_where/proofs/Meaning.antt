@@ -12,7 +12,7 @@ use Rattle.pw_cmean.specs.SourceRun.{set_parameters, result_of, run_body, callee
 use Rattle.pw_run_agreement.specs.Agreement.{IsDefined}
 use Rattle.pw_run_languages.specs.LinkingLaws.{frame_in}
 use Rattle.pw_law_source.specs.Source.{source_runs}
-use Rattle.pw_law_told.specs.Told.{IsPause}
+use Rattle.pw_law_truth.specs.Truth.{IsPause}
 use Rattle.pw_tests_where.specs.Images.{image, program, right_value, things}
 
 pub defined : IsDefined (source_runs program (frame_in (image right_value)) 4096 [])

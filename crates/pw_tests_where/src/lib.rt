@@ -8,8 +8,7 @@ ghost use Rattle.pw_run_agreement.specs.Agreement.{IsDefined};
 ghost use Rattle.pw_run_languages.specs.LinkingLaws.{frame_in};
 ghost use Rattle.pw_law_source.specs.Source.{source_runs};
 ghost use Rattle.pw_where.specs.Looks.{ShowsAt};
-ghost use Rattle.pw_law_told.specs.Told.{IsPause};
-ghost use Rattle.pw_law_truth.specs.Truth.{ShowsTruth, TellTrue};
+ghost use Rattle.pw_law_truth.specs.Truth.{IsPause, ShowsTruth, TellTrue};
 ghost use Rattle.pw_tests_where.specs.Images.{frames, image, objects, program, right_lines, right_value, things, wrong_value};
 
 use pw_machine::{data_bytes, text_words};
