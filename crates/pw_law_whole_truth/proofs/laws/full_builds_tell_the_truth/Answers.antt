@@ -7,11 +7,12 @@ use Rattle.pw_law_selection.proofs.Given.{function_valid}
 use Rattle.pw_db_sound.specs.CallGraphs.{Graph}
 use Rattle.pw_db_sound.specs.Sound.{Sound}
 use Rattle.pw_law_layers.specs.Whole.{IsBuilt, image_of, roomless}
+use Rattle.pw_law_layers.proofs.Roomless.{program_stays}
 use Rattle.pw_law_truth.specs.Truth.{ShowsTruth}
 use Rattle.pw_law_whole.specs.Programs.{flow_of, flows_in, functions_under}
 use Rattle.pw_law_whole_truth.proofs.Globals.{forms_globals, lowered_globals}
 use Rattle.pw_law_whole_truth.proofs.Places.{all_located}
-use Rattle.pw_law_whole_truth.proofs.Roomless.{roomless_graph, roomless_program}
+use Rattle.pw_law_whole_truth.proofs.Roomless.{roomless_graph}
 use Rattle.pw_law_whole_truth.proofs.Texts.{made_of}
 use Rattle.pw_law_whole_truth.proofs.laws.full_builds_tell_the_truth.Goals as goal
 
@@ -28,7 +29,7 @@ returns c = λ texts opts parts p frames k budget input build of_texts plain few
     record { implements = a.implements; frames = a.frames; names = a.names; enough = a.enough; database = s.database; sound = s.sound; serve = a.serve; made = a.made; fits = a.fits } in
     let direction = c.direction_keeps.ensures q db input program s.database s.sound in
     let places = c.places_keep.ensures q db functions input program s.database s.sound a.serve in
-    let free_program = roomless_program q program in
+    let free_program = program_stays q program in
     let free_sound = subst (λ (g : Graph). Sound g db) (sym (roomless_graph q)) s.sound in
     let free_direction = c.direction_keeps.ensures (roomless q) db input free_program s.database free_sound in
     let free_places = c.places_keep.ensures (roomless q) db functions input free_program s.database free_sound a.serve in
