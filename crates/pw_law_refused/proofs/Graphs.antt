@@ -32,7 +32,7 @@ use Rattle.pw_law_selection.specs.Following.{IsGiven}
 use Rattle.pw_law_selection.proofs.Reaching.{webs_go}
 use Rattle.pw_law_room.proofs.Parts.{begun_at, starts_at_by, starts_by}
 use Rattle.pw_law_layers.specs.Whole.{roomless}
-use Rattle.pw_law_refused.specs.Refused.{HasShown, IsRefused, IsRefusedAlike, behind, with_call}
+use Rattle.pw_law_refused.specs.Refused.{HasShown, IsRefused, IsRefusedAlike, behind, log_with_call}
 use Rattle.pw_law_refused.proofs.Stages.{next_is, stops_from}
 use Rattle.pw_law_refused.proofs.Adding.{Events, IsLater, TraceOf, begins_later, earlier, later_then, one_trace, trace_later}
 use Rattle.pw_law_refused.proofs.Logs.{StopsAlike, alike_lengths, alike_weaker, alone_append, counts_add, counts_alike, has_latest, has_part, shown_count, shows_alike, stops_alike}
@@ -156,7 +156,7 @@ module _ (shape : WebsKeepShape) (never : WebsNeverStop) (p : Program) (d : List
   -- the run without room, where it has noted more than the run with room, has noted the refused call
   module _ (n : ℕ) (m u : Machine) (comes : steps full n (start full input) ≡ On m) (r : IsRefused p functions m u) where
     abbrev call : Events
-    call = with_call p functions r.function.body.name (behind r.ops m)
+    call = log_with_call p functions r.function.body.name (behind r.ops m)
 
     passed : steps free n (start free input) ≡ On m
     passed = steps_on p functions input n m comes
@@ -338,7 +338,7 @@ module _ (shape : WebsKeepShape) (never : WebsNeverStop) (p : Program) (d : List
           events = events.alike;
         }
 
-    both_refused : (count : ℕ) (log : List flow.Moment) (s : PlacesStop count) → HasBoth log (with_call p functions s.refused.function.body.name (behind s.refused.ops s.last)) → IsRefusedAlike p functions input count log
+    both_refused : (count : ℕ) (log : List flow.Moment) (s : PlacesStop count) → HasBoth log (log_with_call p functions s.refused.function.body.name (behind s.refused.ops s.last)) → IsRefusedAlike p functions input count log
     both_refused count log s h =
         let r = s.refused in
         let next = behind r.ops s.last in
@@ -365,7 +365,7 @@ module _ (shape : WebsKeepShape) (never : WebsNeverStop) (p : Program) (d : List
         let same = counts_alike (EventAlike Same Same) places_kind h.webs h.below h.events in
         let own = s.counts in
         let further : shown_count s.last.trace < shown_count h.below = omega (arith, long, same, own, more) in
-        both_refused count log s (has_both log (with_call p functions s.refused.function.body.name (behind s.refused.ops s.last)) h (behind_call s.at s.last s.stopped s.comes s.refused h.at h.below h.trace (cases_lt s.at h.at) further))
+        both_refused count log s (has_both log (log_with_call p functions s.refused.function.body.name (behind s.refused.ops s.last)) h (behind_call s.at s.last s.stopped s.comes s.refused h.at h.below h.trace (cases_lt s.at h.at) further))
 
     pub refused_alike : (n k : ℕ) (v u : View flow.Moment) → flow_run p input n ≡ Over StackFull v → HasShown (flow_run (roomless p) input k) u → length v.log < length u.log → IsRefusedAlike p functions input (length v.log) u.log
     refused_alike n k v u over shown more = refused_by (length v.log) u.log (places_stop (length v.log) (webs_stop n v over)) (goes_below k u shown) more

@@ -43,8 +43,8 @@ pub record IsRefused (p : Program) (functions : List Located) (m u : placed.Mach
   pub stops : u ≡ noted (Refused function.body.name) (behind ops m)
 
 -- what the placed run has noted in a state, and as the latest the call of this function
-abbrev pub with_call : Program → List Located → List ℕ → placed.Machine → List (Event Byte Value)
-with_call p functions name m = Called name (globals_now (with_functions p functions) m.registers (m.frame ∷ m.callers) m.objects) (placed.kept m.registers) ∷ m.trace
+abbrev pub log_with_call : Program → List Located → List ℕ → placed.Machine → List (Event Byte Value)
+log_with_call p functions name m = Called name (globals_now (with_functions p functions) m.registers (m.frame ∷ m.callers) m.objects) (placed.kept m.registers) ∷ m.trace
 
 -- what a run has shown at a stage, if it has not gone wrong
 abbrev pub HasShown : {M : Type 0} → Stage M → View M → Type 0
@@ -68,7 +68,7 @@ pub record IsRefusedAlike (p : Program) (functions : List Located) (input : List
   -- as the run under directives notes it
   pub webs : List (Event Byte Value)
   pub moments : AreAlike (MomentAlike p) (flow.Called refused.function.body.name objects ∷ before) (calls_alone webs)
-  pub events : AreAlike (EventAlike Same Same) webs (with_call p functions refused.function.body.name (behind refused.ops last))
+  pub events : AreAlike (EventAlike Same Same) webs (log_with_call p functions refused.function.body.name (behind refused.ops last))
 
 -- The run of lines comes to a state in which that call is noted, with the globals in the like places with like contents as in the
 -- placed run.
@@ -76,4 +76,4 @@ pub record NotesRefused (p : Program) (functions : List Located) (w : Addresses)
   pub count : ℕ
   pub state : run.Machine
   pub comes : run.steps (line_program p functions) w scratch count (run.start (line_program p functions) w input) ≡ run.On state
-  pub alike : AreAlike (EventInWords p w.named) (with_call p functions name m) state.trace
+  pub alike : AreAlike (EventInWords p w.named) (log_with_call p functions name m) state.trace

@@ -45,7 +45,7 @@ use Rattle.pw_where.specs.Calls.{IsCall, one_if}
 use Rattle.pw_law_where.specs.Counting.{AreEntriesOf}
 use Rattle.pw_law_pause.specs.Moments.{IsOlder, noted_within}
 use Rattle.pw_law_calls.specs.Calls.{HasCalls, HasNoted, IsCallOfSource, IsSourceCall, calls_among, is_call}
-use Rattle.pw_law_refused.specs.Refused.{HasShown, IsRefused, IsRefusedAlike, NotesRefused, behind, with_call}
+use Rattle.pw_law_refused.specs.Refused.{HasShown, IsRefused, IsRefusedAlike, NotesRefused, behind, log_with_call}
 use Rattle.pw_law_refused.proofs.Logs.{alike_lengths, alike_weaker, has_latest, has_part, shows_alike, stops_alike}
 use Rattle.pw_law_told.specs.Told.{IsPause, world_of}
 use Rattle.pw_law_told.proofs.Pauses.{Longer, Roomier, call_later, longer_counts, one_call, pause_is, roomless_later}
@@ -373,7 +373,7 @@ module _ (laws : LawsBelow) (p : source.Program) (q : Program) (d : List (List �
           let view = lines.shown line.state line.state.trace in
           let met : GoesLately Same view machine = subst (λ (x : Stage (Event ℕ ℕ)). MetLately Same x machine) (line_goes (line_program q functions) w scratch input line.count line.state line.comes) (down line.count) in
           let log : List Moment = Called name h.own ∷ h.before in
-          let refines = goes_down laws.through q w.named log (flow.Called name r.objects ∷ r.before) r.webs (with_call q functions name (behind r.refused.ops r.last)) view machine h.alike r.moments r.events line.alike met in
+          let refines = goes_down laws.through q w.named log (flow.Called name r.objects ∷ r.before) r.webs (log_with_call q functions name (behind r.refused.ops r.last)) view machine h.alike r.moments r.events line.alike met in
           let there = subst (λ (named : List ℕ → ℕ). Refines (InMachine q named) (constant met.view.output met.view.read log) (calls_of machine)) layers.linking.named refines in
           moved name h.own h.same
           (laws.calls q entries map core input (constant met.view.output met.view.read log) k step 0 s log name h.own are there reached refl (record { later = []; before = h.before; log_is = refl; count = h.number }))
