@@ -1,5 +1,5 @@
--- Where no function takes room on the stack, a program is accepted as it is with room; and what meets the source's stages up to an
--- undefined operation meets those that promise nothing there.
+-- Where no function takes room on the stack, a program is accepted as it is with room, and moments are alike as they are there; and
+-- what meets the source's stages up to an undefined operation meets those that promise nothing there.
 use Rattle.std.specs.Prelude.{ℕ, List, [], ◌∷◌}
 use Rattle.std.specs.List.{AllByRecursion}
 use Rattle.std.proofs.Common.{arith}
@@ -10,11 +10,12 @@ use Rattle.pw_flow.specs.declared.flow.Op.TheVariants.{AddrGlobal, AddrFn, LoadG
 use Rattle.pw_cmean.specs.Worlds.{Program}
 use Rattle.pw_cmean.specs.Acts as source
 use Rattle.pw_cmean.specs.Acts.{Outcome, Gives, Ends}
-use Rattle.pw_run.specs.Runs.{Stage, Met}
+use Rattle.pw_run.specs.Runs.{Stage, Going, Over, Wrong, AreAlike, none, also, Met}
 use Rattle.pw_run_languages.specs.Programs as flows
+use Rattle.pw_run_languages.specs.FlowRun as flow
 use Rattle.pw_run_languages.specs.LawfulPrograms.{NamesRightly, IsItem, IsProgram}
 use Rattle.pw_law_source.specs.Source.{staged, staged_within}
-use Rattle.pw_law_source.specs.Lowering.{flow_program, IsAccepted}
+use Rattle.pw_law_source.specs.Lowering.{MomentKept, flow_program, IsAccepted}
 use Rattle.pw_law_layers.specs.Whole.{roomless}
 
 -- ---- programs
@@ -54,6 +55,37 @@ accepted_stays p frame_of stack accepted = record {
   program = program_stays (flow_program p frame_of stack) accepted.program;
   alike = record { declared = accepted.alike.declared; library = accepted.alike.library; main = accepted.alike.main };
 }
+
+-- ---- moments
+
+pub kept_with_room : (q : flows.Program) (m : source.Moment) (n : flow.Moment) → MomentKept (roomless q) m n → MomentKept q m n
+kept_with_room q (source.Called f objects) (flow.Called g kept) h = (h.0, record { place = h.1.place; globals = h.1.globals })
+kept_with_room q (source.Called f objects) (flow.Returned g kept) h = absurd h
+kept_with_room q (source.Returned f objects) (flow.Called g kept) h = absurd h
+kept_with_room q (source.Returned f objects) (flow.Returned g kept) h = (h.0, record { place = h.1.place; globals = h.1.globals })
+
+-- what is alike in one way is so in a weaker one
+module _ {M N : Type 0} (F G : M → N → Type 0) (weaker : (m : M) (n : N) → F m n → G m n) where
+  alike_so : (l : List M) (k : List N) → AreAlike F l k → AreAlike G l k
+  alike_so l k none = none
+  alike_so l k (also m n ms ns f rest) = also m n ms ns (weaker m n f) (alike_so ms ns rest)
+
+  pub met_so : (s : Stage M) (b : ℕ → Stage N) → Met F s b → Met G s b
+  met_so (Going v) b h = record {
+    at = h.at;
+    view = h.view;
+    is = h.is;
+    same = record { output = h.same.output; read = h.same.read; log = alike_so v.log h.view.log h.same.log };
+    counted = h.counted;
+  }
+  met_so (Over end v) b h = record {
+    at = h.at;
+    view = h.view;
+    is = h.is;
+    same = record { output = h.same.output; read = h.same.read; log = alike_so v.log h.view.log h.same.log };
+    counted = h.counted;
+  }
+  met_so Wrong b h = tt
 
 -- ---- stages
 

@@ -125,7 +125,7 @@ pub record Implements (p : Program) (q : flows.Program) : Type 0 where
   pub runs : (input : List ℕ) → NoneForLibrary q.frame_of → AreBytes input →
       Refines (MomentKept q) (source_stages p q.frame_of q.stack input) (flow.flow_run q input)
   pub progress : (input : List ℕ) → AreBytes input →
-      Refines (MomentKept (roomless q)) (source_progress p (λ f. 0) 0 input) (flow.flow_run (roomless q) input)
+      Refines (MomentKept q) (source_progress p (λ f. 0) 0 input) (flow.flow_run (roomless q) input)
   pub rooms : HaveRooms p q
 
 abbrev pub image_of : List Object → ℕ → Image

@@ -129,7 +129,7 @@ optimised_implements runs rooms programs p q ns opt is = record {
       refines_on (MomentKept q) (MomentKept (with_modules q ns)) (kept_moments q (with_modules q ns) (all_globals_stay q.modules ns opt))
       (source_stages p q.frame_of q.stack input) (flow_run q input) (flow_run (with_modules q ns) input) (is.runs input none bytes) (runs q ns input is.program.modules opt);
   progress = λ input bytes.
-      refines_on (MomentKept (roomless q)) (MomentKept (roomless (with_modules q ns))) (kept_moments (roomless q) (roomless (with_modules q ns)) (all_globals_stay q.modules ns opt))
+      refines_on (MomentKept q) (MomentKept (with_modules q ns)) (kept_moments q (with_modules q ns) (all_globals_stay q.modules ns opt))
       (source_progress p (λ f. 0) 0 input) (flow_run (roomless q) input) (flow_run (roomless (with_modules q ns)) input) (is.progress input bytes) (runs (roomless q) ns input is.program.modules opt);
   rooms = forms_rooms rooms true p q ns opt is.rooms;
 }

@@ -59,17 +59,13 @@ bytes_kept : (k : ℕ) (place : ℕ → ℕ) (os : List Object) → AreAlike (By
 bytes_kept k place os =
     also (B.Num 0) (B.Num 0) _ _ refl (also (B.Num 0) (B.Num 0) _ _ refl (also (B.Num 0) (B.Num 0) _ _ refl (also (B.Num k) (B.Num k) _ _ refl none)))
 
--- the program with these frames and this stack
-abbrev having : (List ℕ → ℕ) → ℕ → flows.Program
-having frame_of stack = record q { frame_of = frame_of; stack = stack }
-
-same_at : (frame_of : List ℕ → ℕ) (stack k : ℕ) → SameGlobals (having frame_of stack) (n_is k) (n_is k)
-same_at frame_of stack k = record { place = λ o. o; globals = (refl, record { bytes = bytes_kept k (λ o. o) (n_is k); scalar = refl }, tt) }
+same_at : (k : ℕ) → SameGlobals q (n_is k) (n_is k)
+same_at k = record { place = λ o. o; globals = (refl, record { bytes = bytes_kept k (λ o. o) (n_is k); scalar = refl }, tt) }
 
 -- ---- calls and returns, the latest first
 
-called_main : (frame_of : List ℕ → ℕ) (stack : ℕ) → AreAlike (MomentKept (having frame_of stack)) (source.Called (codes "main") (n_is 0) ∷ []) (flow.Called (codes "main") (n_is 0) ∷ [])
-called_main frame_of stack = also _ _ _ _ (refl, same_at frame_of stack 0) none
+called_main : AreAlike (MomentKept q) (source.Called (codes "main") (n_is 0) ∷ []) (flow.Called (codes "main") (n_is 0) ∷ [])
+called_main = also _ _ _ _ (refl, same_at 0) none
 
 abbrev all_calls : List flow.Moment
 all_calls =
@@ -81,10 +77,10 @@ all_moments =
     source.Returned (codes "main") (n_is 2) ∷ source.Returned (codes "bump") (n_is 2) ∷ source.Called (codes "bump") (n_is 1)
     ∷ source.Returned (codes "bump") (n_is 1) ∷ source.Called (codes "bump") (n_is 0) ∷ source.Called (codes "main") (n_is 0) ∷ []
 
-alike : (frame_of : List ℕ → ℕ) (stack : ℕ) → AreAlike (MomentKept (having frame_of stack)) all_moments all_calls
-alike frame_of stack =
-    also _ _ _ _ (refl, same_at frame_of stack 2) (also _ _ _ _ (refl, same_at frame_of stack 2) (also _ _ _ _ (refl, same_at frame_of stack 1)
-    (also _ _ _ _ (refl, same_at frame_of stack 1) (also _ _ _ _ (refl, same_at frame_of stack 0) (called_main frame_of stack)))))
+alike : AreAlike (MomentKept q) all_moments all_calls
+alike =
+    also _ _ _ _ (refl, same_at 2) (also _ _ _ _ (refl, same_at 2) (also _ _ _ _ (refl, same_at 1)
+    (also _ _ _ _ (refl, same_at 1) (also _ _ _ _ (refl, same_at 0) called_main))))
 
 -- ---- both runs, whatever the input: within no call, within one, and within more
 
@@ -102,7 +98,7 @@ over_too input = record {
   at = 20;
   view = record { output = 50 ∷ []; read = 0; events = 4; log = all_calls };
   is = refl;
-  same = record { output = refl; read = refl; log = alike q.frame_of q.stack };
+  same = record { output = refl; read = refl; log = alike };
   counted = omega arith;
 }
 
@@ -119,7 +115,7 @@ meets input (suc zero) = record {
   at = 1;
   view = record { output = []; read = 0; events = 1; log = flow.Called (codes "main") (n_is 0) ∷ [] };
   is = refl;
-  same = record { output = refl; read = refl; log = called_main q.frame_of q.stack };
+  same = record { output = refl; read = refl; log = called_main };
   counted = omega arith;
 }
 meets input (suc (suc n)) = subst (λ (s : Stage source.Moment). Met (MomentKept q) s (flow_run q input)) (sym (over input n)) (over_too input)
@@ -131,17 +127,17 @@ unfolding give stop go_on ◌>>=◌ branch wrong look make end_object write next
 over_roomless input zero = refl
 over_roomless input (suc n) = refl
 
-over_roomless_too : (input : List ℕ) → Met (MomentKept (roomless q)) (Over (Ended 2) whole) (flow_run (roomless q) input)
+over_roomless_too : (input : List ℕ) → Met (MomentKept q) (Over (Ended 2) whole) (flow_run (roomless q) input)
 unfolding command flow.step flow.steps flow_run directed in_words entered_from selected entered_lines placed laid linked
 over_roomless_too input = record {
   at = 20;
   view = record { output = 50 ∷ []; read = 0; events = 4; log = all_calls };
   is = refl;
-  same = record { output = refl; read = refl; log = alike (λ f. 0) 0 };
+  same = record { output = refl; read = refl; log = alike };
   counted = omega arith;
 }
 
-meets_roomless : (input : List ℕ) (n : ℕ) → Met (MomentKept (roomless q)) (source_progress in_c (λ f. 0) 0 input n) (flow_run (roomless q) input)
+meets_roomless : (input : List ℕ) (n : ℕ) → Met (MomentKept q) (source_progress in_c (λ f. 0) 0 input n) (flow_run (roomless q) input)
 unfolding give stop go_on ◌>>=◌ branch wrong look make end_object write next_byte get_char put_char called returned during with_object need undefined told judge objects_now within load store copy fetch put truth outcome_of on_numbers unary_number unary advance advance_elements difference ordered compared on_pointers pointer_and_number number_and_pointer binary convert local_place symbol_place used value_by value_at cast bounded_call take_room library_call call_body call call_value old_value update step answer_of place_of values_of go_forward caught taking_up after_body turn loop meet_loop always value_of condition for_condition drop_value switch_to after_switch with_locals set_local initialise initialise_all meaning items arms behind_arms set_parameters result_of run_body callee calls finish run_main source_progress command flow.step flow.steps flow_run directed in_words entered_from selected entered_lines placed laid linked
 meets_roomless input zero = record {
   at = 0;
@@ -154,10 +150,10 @@ meets_roomless input (suc zero) = record {
   at = 1;
   view = record { output = []; read = 0; events = 1; log = flow.Called (codes "main") (n_is 0) ∷ [] };
   is = refl;
-  same = record { output = refl; read = refl; log = called_main (λ f. 0) 0 };
+  same = record { output = refl; read = refl; log = called_main };
   counted = omega arith;
 }
-meets_roomless input (suc (suc n)) = subst (λ (s : Stage source.Moment). Met (MomentKept (roomless q)) s (flow_run (roomless q) input)) (sym (over_roomless input n)) (over_roomless_too input)
+meets_roomless input (suc (suc n)) = subst (λ (s : Stage source.Moment). Met (MomentKept q) s (flow_run (roomless q) input)) (sym (over_roomless input n)) (over_roomless_too input)
 
 -- ---- they implement the program
 
