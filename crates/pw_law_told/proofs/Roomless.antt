@@ -280,10 +280,10 @@ module _ (laws : LawsBelow) (p : source.Program) (q : Program) (d : List (List �
               pause = record { bound = n; call = call_later (noted_within own_world input n) (noted_within free input n) k c.function c.things (roomless_later laws.roomier p (frame_in (image_of objects q.stack)) q.stack input n) there };
             }
         | inr full ↦ let called = next n full.state full.is in record {
-            function = called.0;
-            things = full.state.objects;
-            pause = record { bound = n; call = record { later = called.1.0; before = full.state.moments; log_is = called.1.1; count = full.count } };
-          }
+          function = called.0;
+          things = full.state.objects;
+          pause = record { bound = n; call = record { later = called.1.0; before = full.state.moments; log_is = called.1.1; count = full.count } };
+        }
       ]
 
   module _ (entries : List ℕ) (k step : ℕ) (s : State) (are : AreEntriesOf entries map) (reached : IsCall entries (start_state core input) k step s) (f : List ℕ) (things : List Thing) (pause : IsPause p input k f things) where

@@ -54,9 +54,7 @@ use pw_law_linked::{
     given_programs_have_lawful_addresses, linked_programs_are_framed, linked_programs_are_linked,
     linking_keeps_runs,
 };
-use pw_law_pause::laws::{
-    longer_runs_note_more, refused_calls_come_next, roomier_runs_note_more,
-};
+use pw_law_pause::laws::{longer_runs_note_more, refused_calls_come_next, roomier_runs_note_more};
 use pw_law_refused::laws::{graphs_are_refused_alike, refused_calls_are_noted};
 use pw_law_room::laws::active_calls_have_room;
 use pw_law_selection::selection_keeps_runs;
