@@ -16,10 +16,11 @@ ghost use Rattle.pw_law_layers.specs.Whole.{IsBuilt, image_of};
 ghost use Rattle.pw_debug_frames.specs.Frames.{frame_info};
 ghost use Rattle.pw_law_truth.specs.Truth.{ShowsTruth, definitions_of, lowered_definition};
 
+use pw_law_bytes::laws::globals_have_their_bytes;
 use pw_law_calls::laws::calls_are_those_of_the_source;
 use pw_law_code::code::{linked_addresses_are_lawful, maps_name_the_program};
 use pw_law_entries::laws::linked_programs_have_their_entries;
-use pw_law_layers::layers_compose;
+use pw_law_layers::{layers_compose, maps_have_frames};
 use pw_law_linked::linking_keeps_runs;
 use pw_law_selection::selection_keeps_runs;
 use pw_law_told::laws::{values_are_those_of_the_program, walks_are_not_lost};
@@ -39,6 +40,8 @@ pub fn lines_say_true()
     maps_name_the_program();
     linked_programs_have_their_entries();
     layers_compose();
+    maps_have_frames();
+    globals_have_their_bytes();
     linking_keeps_runs();
     selection_keeps_runs();
     values_are_those_of_the_program();
