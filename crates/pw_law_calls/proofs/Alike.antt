@@ -17,13 +17,13 @@ use Rattle.pw_law_where.specs.Counting.{AreEntriesOf, NotesCall, is_source_call,
 use Rattle.pw_law_calls.specs.Calls.{HasNoted, IsCallOfSource, IsSourceCall, calls_among, is_call}
 use Rattle.pw_law_calls.proofs.Logs.{Events, IsCallIn, no_call, one_call_of, refused_call, whole_call}
 
-abbrev AllShown : Events → Type 0
+abbrev pub AllShown : Events → Type 0
 AllShown es = AllByRecursion (λ e. is_shown e ≡ true) es
 
 -- ---- what is alike, moment by moment
 
 module _ (q : Program) (named : List ℕ → ℕ) where
-  abbrev Alike : Moment → Event ℕ ℕ → Type 0
+  abbrev pub Alike : Moment → Event ℕ ℕ → Type 0
   Alike = InMachine q named
 
   abbrev Each : List Moment → Events → Type 0
@@ -60,7 +60,7 @@ module _ (q : Program) (named : List ℕ → ℕ) where
   one_counts (source.Returned f objects) (Loaded v) h shown = absurd h
   one_counts (source.Returned f objects) (Stored v) h shown = absurd h
 
-  counts : (ms : List Moment) (es : Events) → AreAlike Alike ms es → AllShown es → calls_among ms ≡ source_calls es
+  pub counts : (ms : List Moment) (es : Events) → AreAlike Alike ms es → AllShown es → calls_among ms ≡ source_calls es
   counts [] es a shown = sym (ap source_calls (each [] es a))
   counts (m ∷ ms) es a shown =
       let p = each (m ∷ ms) es a in
@@ -110,7 +110,7 @@ shown_if : (b : Bool) (e : Event ℕ ℕ) (es : Events) → is_shown e ≡ b →
 shown_if true e es is all = (is, all)
 shown_if false e es is all = all
 
-all_shown : (log : Events) → AllShown (calls_alone log)
+pub all_shown : (log : Events) → AllShown (calls_alone log)
 all_shown [] = tt
 all_shown (e ∷ log) = shown_if (is_shown e) e (calls_alone log) refl (all_shown log)
 
@@ -159,7 +159,7 @@ module _ (m : Map) (core : Core) (input : List ℕ) where
       (met.at, found_in q m.named k f objects v.log (log_of (run met.at)) alike (run_shown met.at) (subst (λ (l : List Moment). IsSourceCall l k f objects) (sym has) c))
   met_call q Wrong k f objects log met has c = absurd has
 
-  noted_call : (k step : ℕ) (c : Core) (call : NotesCall m k c (noted m (start_state core input) step)) → IsCallIn (noted m (start_state core input) step).log k (Called call.function (globals_in m c call.callers) (kept c))
+  pub noted_call : (k step : ℕ) (c : Core) (call : NotesCall m k c (noted m (start_state core input) step)) → IsCallIn (noted m (start_state core input) step).log k (Called call.function (globals_in m c call.callers) (kept c))
   noted_call k step c call = record { later = []; before = call.before; is = call.called; of_source = call.of_source; count = call.count }
 
   found_call : (q : Program) (k step : ℕ) (c : Core) (f : List ℕ) (objects : List Object) → HasCall q k f objects → NotesCall m k c (noted m (start_state core input) step) → IsCallOfSource q m k c (noted m (start_state core input) step) f objects

@@ -1,3 +1,4 @@
 pub mod Logs
 pub mod Alike
+pub mod Counted
 pub mod Told

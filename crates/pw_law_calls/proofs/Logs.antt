@@ -25,7 +25,7 @@ append_counts : (xs ys : Events) → source_calls (xs ++ ys) ≡ source_calls xs
 append_counts [] ys = omega arith
 append_counts (e ∷ xs) ys = let rest = append_counts xs ys in omega (arith, rest)
 
-longer_counts : (later before : Events) (e : Event ℕ ℕ) → is_source_call e ≡ true → source_calls (later ++ e ∷ before) ≡ source_calls later + 1 + source_calls before
+pub longer_counts : (later before : Events) (e : Event ℕ ℕ) → is_source_call e ≡ true → source_calls (later ++ e ∷ before) ≡ source_calls later + 1 + source_calls before
 longer_counts later before e is =
     let both = append_counts later (e ∷ before) in
     let one : one_if (is_source_call e) ≡ 1 = ap one_if is in
@@ -75,7 +75,7 @@ alone_by (Returned f inner globals before after) false log alone is same = omega
 alone_by (Loaded v) false log alone is same = omega (arith, same)
 alone_by (Stored v) false log alone is same = omega (arith, same)
 
-alone_counts : (log : Events) → source_calls (calls_alone log) ≡ source_calls log
+pub alone_counts : (log : Events) → source_calls (calls_alone log) ≡ source_calls log
 alone_counts [] = refl
 alone_counts (e ∷ log) = alone_by e (is_shown e) log (calls_alone log) refl (alone_counts log)
 
@@ -184,7 +184,7 @@ grows_to m start n l le =
     let at : n + d ≡ l = omega (arith, le) in
     subst (λ (i : ℕ). Grows (noted m start n).log (noted m start i).log) at (grows_by m start n d)
 
-call_later : (m : Map) (start : State) (k n l : ℕ) (e : Event ℕ ℕ) → n ≤ l → IsCallIn (noted m start n).log k e → IsCallIn (noted m start l).log k e
+pub call_later : (m : Map) (start : State) (k n l : ℕ) (e : Event ℕ ℕ) → n ≤ l → IsCallIn (noted m start n).log k e → IsCallIn (noted m start l).log k e
 call_later m start k n l e le c =
     let g = grows_to m start n l le in
     subst (λ (log : Events). IsCallIn log k e) (sym g.1) (call_in_more g.0 (noted m start n).log k e c)

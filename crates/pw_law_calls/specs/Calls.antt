@@ -1,12 +1,12 @@
 -- The calls of a program, one by one, beside those that the debugger counts.
-use Rattle.std.specs.Prelude.{ℕ, ◌≡◌, ◌+◌, ◌<◌, Bool, true, false, List, [], ◌∷◌, ◌++◌}
+use Rattle.std.specs.Prelude.{ℕ, ◌≡◌, ◌+◌, ◌<◌, ◌≤◌, Bool, true, false, List, [], ◌∷◌, ◌++◌}
 use Rattle.pw_value.specs.Objects.{Object}
 use Rattle.pw_value.specs.declared.value.Byte.{Byte}
 use Rattle.pw_value.specs.declared.value.Byte.TheVariants as B
 use Rattle.pw_cmean.specs.Acts as source
 use Rattle.pw_cmean.specs.Acts.{Moment}
 use Rattle.pw_machine.specs.Core.{Core}
-use Rattle.pw_run.specs.Runs.{Stage, Going, Over, Wrong}
+use Rattle.pw_run.specs.Runs.{End, Ended, StackFull, Stage, Going, Over, Wrong}
 use Rattle.pw_run_languages.specs.Programs.{Program}
 use Rattle.pw_run_languages.specs.MachineRun.{Map, Noted, globals_in}
 use Rattle.pw_law_layers.specs.Whole.{AllInMachine}
@@ -36,6 +36,17 @@ abbrev pub HasNoted : {M : Type 0} → Stage M → List M → Type 0
 HasNoted (Going v) log = v.log ≡ log
 HasNoted (Over end v) log = v.log ≡ log
 HasNoted Wrong log = ⊥
+
+-- at an end for want of stack one call is refused
+abbrev pub refused_at : End → ℕ
+refused_at (Ended status) = 0
+refused_at StackFull = 1
+
+-- A stage of the program has at least k calls, with the one that is refused, where it is an end, or counts more than so many events.
+abbrev pub HasCalls : ℕ → ℕ → Stage Moment → Type 0
+HasCalls step k (Going v) = step < v.events → k ≤ calls_among v.log
+HasCalls step k (Over end v) = k ≤ calls_among v.log + refused_at end
+HasCalls step k Wrong = Unit {0}
 
 -- ---- the debugger's calls
 

@@ -27,7 +27,7 @@ ghost use Rattle.pw_where.specs.Calls.{IsCall};
 ghost use Rattle.pw_law_walk.specs.Chains.{Callers};
 ghost use Rattle.pw_law_where.specs.Counting.{AreEntriesOf};
 ghost use Rattle.pw_law_debug.specs.Telling.{number_of};
-ghost use Rattle.pw_law_calls.specs.Calls.{HasNoted, IsCallOfSource, IsSmall, IsSourceCall};
+ghost use Rattle.pw_law_calls.specs.Calls.{HasCalls, HasNoted, IsCallOfSource, IsSmall, IsSourceCall};
 
 use pw_law_debug::laws::walks_come_to_what_is_noted;
 use pw_law_where::laws::a_call_is_noted;
@@ -40,6 +40,17 @@ pub fn calls_are_those_of_the_source()
         AreEntriesOf entries m → Refines (InMachine q m.named) meaning (calls_of (traced_run m core input)) →
         IsCall entries (start_state core input) k step s → HasNoted (meaning n) log → IsSourceCall log k f objects →
         IsCallOfSource q m k s.core (noted m (start_state core input) step) f objects }
+{
+    a_call_is_noted();
+}
+
+/// Where the debugger's k-th call is behind so many steps, and the calls and returns of the program are those of the machine as far as
+/// the program has not gone wrong, the program has at least k calls at each stage that is its end or counts more events than these
+/// steps, with the one that is refused at an end for want of stack.
+pub fn stages_have_the_calls()
+    ensures { (q : Program) (entries : List ℕ) (m : Map) (core : Core) (input : List ℕ) (meaning : ℕ → Stage Moment) (k step n : ℕ) (s : State) →
+        AreEntriesOf entries m → Refines (InMachine q m.named) meaning (calls_of (traced_run m core input)) →
+        IsCall entries (start_state core input) k step s → HasCalls step k (meaning n) }
 {
     a_call_is_noted();
 }

@@ -32,7 +32,7 @@ use Rattle.pw_run_agreement.specs.Agreement.{IsDefined}
 use Rattle.pw_run_languages.specs.LinkingLaws.{frame_in}
 use Rattle.pw_law_source.specs.Source.{source_runs}
 use Rattle.pw_law_layers.specs.Whole.{image_of}
-use Rattle.pw_law_truth.specs.Truth.{ComesToCall, ShowsTruth, TellTrue}
+use Rattle.pw_law_truth.specs.Truth.{IsPause, ShowsTruth, TellTrue}
 use Rattle.pw_law_debugger.specs.Debugger.{LosesUndefined, TellsTruth}
 
 -- the answers to a look at a call
@@ -108,7 +108,7 @@ module _ (shown : Files) (opts : RunOpts) (k : ℕ) (input : List ℕ) (effect :
   module _ (p : Program)
       (law : (parts : Parts) (frames : List FrameInfo) → FullBuild (module_map shown) opts.build (Ok parts) → AreFrames parts.objects frames →
       IsDefined (source_runs p (frame_in (image_of parts.objects opts.build.stack)) opts.build.stack input) →
-      ShowsTruth p (image_of parts.objects opts.build.stack) parts.objects frames opts.build.stack k opts.budget input) where
+      ShowsTruth p (image_of parts.objects opts.build.stack) parts.objects frames k opts.budget input) where
     pub truth : effect.answer ≡ Done → (comes : Result Outcome BuildFault) → BuildOutcome shown opts.build comes → WhereOver opts.budget k input comes effect → TellsTruth shown opts k input effect.output p
     truth is comes build over =
         let l = looked Done tt is comes build over in
@@ -119,8 +119,8 @@ module _ (shown : Files) (opts : RunOpts) (k : ℕ) (input : List ℕ) (effect :
           file = l.file;
           objects = l.parts.objects;
           tells = subst (λ (v : Image). IsDefined (source_runs p (frame_in v) opts.build.stack input) → (f : List ℕ) (things : List Thing) →
-              ComesToCall p v opts.build.stack input k f things → TellTrue p v l.parts.objects k effect.output f things) (sym l.value)
-              (λ defined f things comes. (law (all_fresh l.parts) l.frames l.full l.are defined).lines effect.output (Some l.showed.0) f things l.showed.1 comes);
+              IsPause p input k f things → TellTrue p v l.parts.objects k effect.output f things) (sym l.value)
+              (λ defined f things pause. (law (all_fresh l.parts) l.frames l.full l.are defined).lines effect.output (Some l.showed.0) f things l.showed.1 pause);
         }
 
     pub undefined_where_lost : (address : ℕ) → effect.answer ≡ NoFrames address → (comes : Result Outcome BuildFault) → BuildOutcome shown opts.build comes → WhereOver opts.budget k input comes effect

@@ -12,10 +12,10 @@ use Rattle.pw_cmean.specs.Worlds.{Program}
 use Rattle.pw_run_agreement.specs.Agreement.{IsDefined}
 use Rattle.pw_run_languages.specs.LinkingLaws.{frame_in}
 use Rattle.pw_law_source.specs.Source.{source_runs}
-use Rattle.pw_law_truth.specs.Truth.{ComesToCall, TellTrue}
+use Rattle.pw_law_truth.specs.Truth.{IsPause, TellTrue}
 
--- The lines are true of the program's k-th call over the input, if the program is defined on it and comes to that call on its
--- stack, each call taking the stack that its function takes in the image.
+-- The lines are true of the program's k-th call over the input, if it comes to one, and is defined on the input with the frames of the
+-- image and its stack.
 pub record TellsTruth (shown : Files) (opts : RunOpts) (k : ℕ) (input lines : List ℕ) (p : Program) : Type 0 where
   -- the image of the full build of the modules that a build sees
   pub bytes : List ℕ
@@ -25,7 +25,7 @@ pub record TellsTruth (shown : Files) (opts : RunOpts) (k : ℕ) (input lines : 
   -- the objects of which it was linked
   pub objects : List Object
   pub tells : IsDefined (source_runs p (frame_in contents.value) opts.build.stack input) → (f : List ℕ) (things : List Thing) →
-      ComesToCall p contents.value opts.build.stack input k f things → TellTrue p contents.value objects k lines f things
+      IsPause p input k f things → TellTrue p contents.value objects k lines f things
 
 -- A walk is lost only where the program is not defined on the input.
 pub record LosesUndefined (shown : Files) (opts : RunOpts) (input : List ℕ) (p : Program) : Type 0 where

@@ -25,8 +25,9 @@ use Rattle.pw_run_languages.specs.PlacedRun.{PlacedProgram, Frame, Machine, Step
 use Rattle.pw_run_languages.specs.Direction.{with_functions}
 use Rattle.pw_law_selection.proofs.Reaching.{value_same, command_same}
 use Rattle.pw_law_room.proofs.Parts.{begun_at, calls_by, next_by, reads_by, result_by, returns_by, starts_at_by, starts_by}
-use Rattle.pw_law_refused.specs.Refused.{IsRefused, behind, with_room}
-use Rattle.pw_law_refused.proofs.Stages.{steps_last}
+use Rattle.pw_law_layers.specs.Whole.{roomless}
+use Rattle.pw_law_refused.specs.Refused.{IsRefused, behind}
+use Rattle.pw_law_refused.proofs.Stages.{comes_from, steps_last}
 
 and_same : (s : Step) (f g : Machine → Step) → ((m : Machine) → f m ≡ g m) → and_then s f ≡ and_then s g
 and_same (On m) f g same = same m
@@ -41,7 +42,7 @@ module _ (p : Program) (functions : List Located) where
   full = with_functions p functions
 
   abbrev free : PlacedProgram
-  free = with_functions (with_room p) functions
+  free = with_functions (roomless p) functions
 
   -- ---- the stack
 
@@ -106,7 +107,7 @@ module _ (p : Program) (functions : List Located) where
   reserved_same Null = refl
   reserved_same (Piece x i) = refl
 
-  commands_same : (base : ℕ) (o : Op) (value : ℕ → Value) → command p base o value ≡ command (with_room p) base o value
+  commands_same : (base : ℕ) (o : Op) (value : ℕ → Value) → command p base o value ≡ command (roomless p) base o value
   unfolding command
   commands_same base (op.Const t n) value = refl
   commands_same base (op.Copy t a) value = refl
@@ -132,7 +133,7 @@ module _ (p : Program) (functions : List Located) where
   unless_full f m u false s t same e =
       ap (λ (c : Bool). if c then Stopped StackFull (noted (Refused f) m) else t) (never_exceeds f (m.frame ∷ m.callers)) ∙ (sym same ∙ e)
 
-  abbrev entering : PlacedProgram → Located → Machine → Machine
+  abbrev pub entering : PlacedProgram → Located → Machine → Machine
   entering q h m = counted (noted (Called h.body.name (globals_now q m.registers (m.frame ∷ m.callers) m.objects) (kept m.registers)) m)
 
   calls_on : (f : List ℕ) (t : Option ℕ) (args : List Value) (m u : Machine) (g : Option Library) (h : Option Located) → calls_by full t f args m g h ≡ On u → calls_by free t f args m g h ≡ On u
@@ -157,7 +158,7 @@ module _ (p : Program) (functions : List Located) where
 
   does_on : (o : WebOp) (m u : Machine) → does full o m ≡ On u → does free o m ≡ On u
   does_on (Flow o) m u e =
-      obeys_on (command (with_room p) m.frame.base o (value_in m.frame m.registers)) m u
+      obeys_on (command (roomless p) m.frame.base o (value_in m.frame m.registers)) m u
       (subst (λ (c : Command). obeys full c m ≡ On u) (commands_same m.frame.base o (value_in m.frame m.registers)) e)
   does_on (Read t r) m u e = e
   does_on (Write r a) m u e = e
@@ -183,21 +184,11 @@ module _ (p : Program) (functions : List Located) where
   start_same : (input : List ℕ) → start full input ≡ start free input
   start_same input = starts_same input (function_named full start_name)
 
-  record ComesFrom (s : Step) (m : Machine) : Type 0 where
-    before : Machine
-    is : s ≡ On before
-    goes : step full before ≡ On m
-
-  comes_from : (s : Step) (m : Machine) → and_then s (step full) ≡ On m → ComesFrom s m
-  comes_from (On before) m e = record { before = before; is = refl; goes = e }
-  comes_from (Stopped end before) m e = absurd cc
-  comes_from Astray m e = absurd cc
-
   pub steps_on : (input : List ℕ) (n : ℕ) (m : Machine) → steps full n (start full input) ≡ On m → steps free n (start free input) ≡ On m
   unfolding steps
   steps_on input zero m e = sym (start_same input) ∙ e
   steps_on input (suc n) m e =
-      let k = comes_from (steps full n (start full input)) m (sym (steps_last full n (start full input)) ∙ e) in
+      let k = comes_from full (steps full n (start full input)) m (sym (steps_last full n (start full input)) ∙ e) in
       steps_last free n (start free input) ∙ (ap (λ (s : Step). and_then s (step free)) (steps_on input n k.before k.is) ∙ step_on k.before m k.goes)
 
   -- ---- a call that is refused
@@ -208,7 +199,7 @@ module _ (p : Program) (functions : List Located) where
   enters_refused m u r =
       let next = behind r.ops m in
       let args = map (value_in m.frame m.registers) r.from in
-      let commanded : command (with_room p) next.frame.base r.op (value_in next.frame next.registers) ≡ Enter r.result r.name args =
+      let commanded : command (roomless p) next.frame.base r.op (value_in next.frame next.registers) ≡ Enter r.result r.name args =
       sym (commands_same m.frame.base r.op (value_in next.frame next.registers))
       ∙ (command_same p m.frame.base r.op (value_in next.frame next.registers) (value_in m.frame m.registers) r.calls (value_same m.frame r.ops m.registers) ∙ r.enters) in
       ap (λ (ops : List WebOp). next_by free m ops) r.next

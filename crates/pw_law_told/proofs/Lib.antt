@@ -3,3 +3,4 @@ pub mod Follows
 pub mod Rooms
 pub mod Values
 pub mod Pauses
+pub mod Roomless

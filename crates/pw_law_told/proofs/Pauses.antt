@@ -14,7 +14,7 @@ use Rattle.pw_law_told.specs.Told.{IsPause, world_of}
 
 -- ---- the k-th call of a log
 
-longer_counts : (later before : List Moment) (f : List ℕ) (things : List Thing) → calls_among (later ++ Called f things ∷ before) ≡ calls_among later + 1 + calls_among before
+pub longer_counts : (later before : List Moment) (f : List ℕ) (things : List Thing) → calls_among (later ++ Called f things ∷ before) ≡ calls_among later + 1 + calls_among before
 longer_counts [] before f things = omega arith
 longer_counts (m ∷ later) before f things = let rest = longer_counts later before f things in omega (arith, rest)
 
@@ -37,13 +37,13 @@ one_moment (m ∷ later) (l ∷ more) f g things others s t e same =
     let rest : later ++ Called f things ∷ s ≡ more ++ Called g others ∷ t = cc in
     one_moment later more f g things others s t rest same
 
-one_call : (log : List Moment) (k : ℕ) (f g : List ℕ) (things others : List Thing) → IsSourceCall log k f things → IsSourceCall log k g others → (f ≡ g) × (things ≡ others)
+pub one_call : (log : List Moment) (k : ℕ) (f g : List ℕ) (things others : List Thing) → IsSourceCall log k f things → IsSourceCall log k g others → (f ≡ g) × (things ≡ others)
 one_call log k f g things others a b =
     let same : calls_among a.before ≡ calls_among b.before = let c = a.count in let d = b.count in omega (arith, c, d) in
     one_moment a.later b.later f g things others a.before b.before (sym a.log_is ∙ b.log_is) same
 
 -- it is that of a log that went on from there
-call_later : (log more : List Moment) (k : ℕ) (f : List ℕ) (things : List Thing) → IsOlder log more → IsSourceCall log k f things → IsSourceCall more k f things
+pub call_later : (log more : List Moment) (k : ℕ) (f : List ℕ) (things : List Thing) → IsOlder log more → IsSourceCall log k f things → IsSourceCall more k f things
 call_later log more k f things older call = record {
   later = older.0 ++ call.later;
   before = call.before;
@@ -61,7 +61,7 @@ moments_by n (Ends Bound s) log h = h
 moments_by n (Ends (Undefined operation home token) s) log h = absurd h
 moments_by n (Ends Wrong s) log h = absurd h
 
-noted_is : (p : Program) (frame_of : List ℕ → ℕ) (stack : ℕ) (input : List ℕ) (n : ℕ) (log : List Moment) → HasNoted (source_stages p frame_of stack input n) log
+pub noted_is : (p : Program) (frame_of : List ℕ → ℕ) (stack : ℕ) (input : List ℕ) (n : ℕ) (log : List Moment) → HasNoted (source_stages p frame_of stack input n) log
     → noted_within (world_of p frame_of stack) input n ≡ log
 unfolding source_stages
 noted_is p frame_of stack input n log h = moments_by n (run_main (world_of p frame_of stack) n (start_state p input)) log h
@@ -85,6 +85,11 @@ abbrev pub Roomier : Type 0
 Roomier = (world : World) (frame_of : List ℕ → ℕ) (stack : ℕ) (input : List ℕ) (n : ℕ) → ((active : List (List ℕ)) → HasRoom world active → HasRoom (with_stack frame_of stack world) active)
     → IsOlder (noted_within world input n) (noted_within (with_stack frame_of stack world) input n)
 
+-- what a run notes it notes first where no function takes room on the stack
+pub roomless_later : Roomier → (p : Program) (frame_of : List ℕ → ℕ) (stack : ℕ) (input : List ℕ) (n : ℕ) → IsOlder (noted_within (world_of p frame_of stack) input n) (noted_within (world_of p (λ f. 0) 0) input n)
+roomless_later roomier p frame_of stack input n =
+    roomier (world_of p frame_of stack) (λ f. 0) 0 input n (λ active some. never_full 0 (depth (world_of p (λ f. 0) 0) active) (no_depth p 0 active))
+
 pub pause_is : Longer → Roomier → (p : Program) (frame_of : List ℕ → ℕ) (stack : ℕ) (input : List ℕ) (n k : ℕ) (log : List Moment) (f g : List ℕ) (things others : List Thing)
     → HasNoted (source_stages p frame_of stack input n) log → IsSourceCall log k f things → IsPause p input k g others → (f ≡ g) × (things ≡ others)
 pause_is longer roomier p frame_of stack input n k log f g things others noted call pause =
@@ -97,7 +102,7 @@ pause_is longer roomier p frame_of stack input n k log f g things others noted c
       log_is = noted_is p frame_of stack input n log noted ∙ call.log_is;
       count = call.count;
     } in
-    let room = roomier own (λ f. 0) 0 input n (λ active some. never_full 0 (depth free active) (no_depth p 0 active)) in
+    let room = roomless_later roomier p frame_of stack input n in
     let one = call_later (noted_within free input n) (noted_within free input m) k f things (longer free input n m (omega arith))
     (call_later (noted_within own input n) (noted_within free input n) k f things room first) in
     let two = call_later (noted_within free input pause.bound) (noted_within free input m) k g others (longer free input pause.bound m (omega arith)) pause.call in

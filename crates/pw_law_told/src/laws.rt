@@ -26,7 +26,7 @@ ghost use Rattle.pw_run_languages.specs.LinkingLaws.{address_of, frame_in, image
 ghost use Rattle.pw_run_languages.specs.PlacementLaws.{DirectionKeeps, PlacesKeep};
 ghost use Rattle.pw_law_source.specs.Source.{source_runs, source_stages};
 ghost use Rattle.pw_law_where.specs.Counting.{NotesCall};
-ghost use Rattle.pw_law_layers.specs.Whole.{IsBuilt, LayersKeep, image_of};
+ghost use Rattle.pw_law_layers.specs.Whole.{IsBuilt, LayersKeep, image_of, roomless};
 ghost use Rattle.pw_debug.specs.Walk.{WalksTo, seen, start_of};
 ghost use Rattle.pw_debug_frames.specs.Frames.{frame_info};
 ghost use Rattle.pw_where.specs.Calls.{IsCall};
@@ -37,12 +37,17 @@ ghost use Rattle.pw_law_told.specs.Told.{IsPause, IsTold, StandAt};
 use pw_law_callers::laws::{
     active_frames_stand, active_functions_are_callers, only_the_first_is_start,
 };
-use pw_law_calls::laws::values_are_those_of_the_source;
+use pw_law_calls::laws::{
+    calls_are_those_of_the_source, stages_have_the_calls, values_are_those_of_the_source,
+};
 use pw_law_direction::start_is_not_called;
 use pw_law_entered::laws::calls_are_entered;
 use pw_law_entries::laws::linked_programs_have_their_entries;
 use pw_law_known::laws::return_addresses_are_known;
-use pw_law_layers::{maps_have_frames, places_fit_their_rooms, sound_directives_guard};
+use pw_law_layers::{
+    layers_hold, maps_have_frames, places_fit_their_rooms, refinement_goes_through,
+    sound_directives_guard,
+};
 use pw_law_link_run::laws::{framed_steps_are_met, images_start_as_lines, library_is_there};
 use pw_law_linked::{
     given_functions_are_ready, given_programs_are_in_memory, given_programs_are_in_place,
@@ -50,6 +55,7 @@ use pw_law_linked::{
     linking_keeps_runs,
 };
 use pw_law_pause::laws::{longer_runs_note_more, roomier_runs_note_more};
+use pw_law_refused::laws::{graphs_are_refused_alike, refused_calls_are_noted};
 use pw_law_room::laws::active_calls_have_room;
 use pw_law_selection::selection_keeps_runs;
 use pw_law_slots::placement_keeps_runs;
@@ -98,6 +104,32 @@ pub fn active_functions_stand()
     selection_keeps_runs();
     placement_keeps_runs();
     noted_calls_are_its_own();
+}
+
+/// Where a program is defined, the debugger's k-th call in the run of its image is the program's where no function takes room on the
+/// stack: of the same function, with the same objects. So it is of each call, also of one that is then refused for want of stack.
+pub fn calls_are_those_of_the_program()
+    ensures { (p : source.Program) (q : Program) (d : List (List ℕ × Directives)) (functions : List Located) (objects : List Object) (input : List ℕ) (k step : ℕ) (s : State) (f : List ℕ) (things : List Thing) →
+        IsBuilt p q d functions objects → AreBytes input → DirectionKeeps q d input → PlacesKeep q d functions input → DirectionKeeps (roomless q) d input → PlacesKeep (roomless q) d functions input →
+        IsDefined (source_runs p (frame_in (image_of objects q.stack)) q.stack input) →
+        IsCall (entries_in (image_of objects q.stack) objects) (start_over (image_of objects q.stack) input) k step s → IsPause p input k f things →
+        IsCallOfSource q (map_of q functions (image_of objects q.stack)) k s.core (noted (map_of q functions (image_of objects q.stack)) (start_over (image_of objects q.stack) input) step) f things }
+{
+    calls_are_those_of_the_source();
+    stages_have_the_calls();
+    linked_programs_have_their_entries();
+    maps_have_frames();
+    places_fit_their_rooms();
+    refinement_goes_through();
+    layers_hold();
+    sound_directives_guard();
+    linking_keeps_runs();
+    selection_keeps_runs();
+    placement_keeps_runs();
+    longer_runs_note_more();
+    roomier_runs_note_more();
+    graphs_are_refused_alike();
+    refused_calls_are_noted();
 }
 
 /// Where a program is defined, and the debugger's k-th call in the run of its image is one of the program's with these objects, a

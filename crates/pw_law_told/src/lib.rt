@@ -1,4 +1,5 @@
-//! Laws of what the debugger tells: at each call of a defined program the values are those of its objects.
+//! Laws of what the debugger tells: each call of a defined program that it counts is the program's, and the values there are those of
+//! its objects.
 #![tactic(auto)]
 
 pub mod laws;

@@ -21,41 +21,20 @@ use Rattle.pw_image.specs.declared.image.Function.{Function}
 use Rattle.pw_image.specs.declared.image.GlobalObject.{GlobalObject}
 use Rattle.pw_machine.specs.Core.{Core}
 use Rattle.pw_cmean.specs.Worlds as source
-use Rattle.pw_cmean.specs.Acts.{Undefined, StackFull, Exit, Bound, Wrong, Outcome, Gives, Ends}
-use Rattle.pw_cmean.specs.Lasting.{state_behind}
-use Rattle.pw_cmean.specs.SourceRun.{run_main, seen as seen_run, source_run, start_state}
-use Rattle.pw_run_agreement.specs.Agreement.{IsMeaningful}
 use Rattle.pw_run_languages.specs.Memory.{scalar_of}
 use Rattle.pw_run_languages.specs.Programs.{Program, globals_of}
-use Rattle.pw_law_source.specs.Source.{end_of, source_runs, source_stages, staged}
 use Rattle.pw_debug.specs.declared.info.FrameInfo.{FrameInfo}
 use Rattle.pw_debug.specs.Walk.{WalksTo, seen, start_of}
 use Rattle.pw_where.specs.declared.numbers.Number.{Number}
 use Rattle.pw_where.specs.declared.shown.Shown.{Shown}
 use Rattle.pw_where.specs.Shown.{number_of_shape, value_line}
 use Rattle.pw_where.specs.Looks.{Values, behind, lost_of, no_more, value_of}
-use Rattle.pw_law_pause.specs.Moments.{noted_within}
-use Rattle.pw_law_calls.specs.Calls.{HasNoted, IsSmall}
-use Rattle.pw_law_told.specs.Told.{IsTold, world_of}
+use Rattle.pw_law_calls.specs.Calls.{IsSmall}
+use Rattle.pw_law_told.specs.Told.{IsTold}
 use Rattle.pw_law_bytes.specs.Stored.{HasItsBytes, HaveTheirBytes}
 use Rattle.pw_law_truth.specs.Truth.{SaysTrue, definitions_of, lowered_definition, lines_of}
 use Rattle.pw_law_truth.proofs.Numbers.{kind_width, number_of, scalar_is, shape_number}
 use Rattle.pw_law_truth.proofs.Places.{IsKnown, same_place}
-
--- ---- what the program's run has noted
-
-noted_by : (n : ℕ) (o : Outcome (Unit {0})) → IsMeaningful (end_of (seen_run o).end) → HasNoted (staged n o) (state_behind o).moments
-noted_by n (Gives done s) means = refl
-noted_by n (Ends (Exit status) s) means = refl
-noted_by n (Ends StackFull s) means = refl
-noted_by n (Ends Bound s) means = refl
-noted_by n (Ends (Undefined operation home token) s) means = absurd means
-noted_by n (Ends Wrong s) means = absurd means
-
-pub has_noted : (p : source.Program) (frame_of : List ℕ → ℕ) (stack : ℕ) (input : List ℕ) (n : ℕ) → IsMeaningful (source_runs p frame_of stack input n).end
-    → HasNoted (source_stages p frame_of stack input n) (noted_within (world_of p frame_of stack) input n)
-unfolding source_stages source_run
-has_noted p frame_of stack input n means = noted_by n (run_main (record { program = p; frame_of = frame_of; stack = stack }) n (start_state p input)) means
 
 -- ---- the lines
 

@@ -14,14 +14,11 @@ use Rattle.pw_object.specs.declared.object.Object.{Object}
 use Rattle.pw_image.specs.declared.image.Image.{Image}
 use Rattle.pw_cmean.specs.Worlds.{Program, ProgramModule, full_name}
 use Rattle.pw_cmean.specs.Access.{value_in}
-use Rattle.pw_run_languages.specs.LinkingLaws.{frame_in}
 use Rattle.pw_where.specs.declared.shown.Shown.{Shown}
 use Rattle.pw_where.specs.Shown.{call_line, value_line}
 use Rattle.pw_where.specs.Looks.{AreShown, ShowsAt}
 use Rattle.pw_debug.specs.declared.info.FrameInfo.{FrameInfo}
-use Rattle.pw_law_pause.specs.Moments.{noted_within}
-use Rattle.pw_law_calls.specs.Calls.{IsSourceCall}
-use Rattle.pw_law_told.specs.Told.{world_of}
+pub use Rattle.pw_law_told.specs.Told.{IsPause}
 
 -- ---- the program
 
@@ -48,12 +45,6 @@ pub record IsInteger (p : Program) (name : List ℕ) (number : ℕ) (kind : IntK
 abbrev pub IsValue : IntKind → List Byte → ℕ → Type 0
 IsValue kind bytes v = value_in (Int kind) bytes ≡ Num v
 
--- Over this input the program, each call taking the stack that its function takes in the image, comes within some bound to its
--- k-th call: of this function, where these are the objects. `main` is the first.
-pub record ComesToCall (p : Program) (image : Image) (stack : ℕ) (input : List ℕ) (k : ℕ) (f : List ℕ) (things : List Thing) : Type 0 where
-  pub bound : ℕ
-  pub call : IsSourceCall (noted_within (world_of p (frame_in image) stack) input bound) k f things
-
 -- ---- the lines
 
 -- a line of each global, with its value
@@ -79,8 +70,8 @@ pub record TellTrue (p : Program) (image : Image) (objects : List Object) (k : �
   pub say : AllByRecursion (SaysTrue p things) values
 
 -- What is shown at the k-th call of an image's run, over these frames, is the truth: lines are true of the program's k-th call, if it
--- comes to one on its stack; and no walk is lost.
-pub record ShowsTruth (p : Program) (image : Image) (objects : List Object) (frames : List FrameInfo) (stack k budget : ℕ) (input : List ℕ) : Type 0 where
+-- comes to one, whether the image's stack has room for this or not; and no walk is lost.
+pub record ShowsTruth (p : Program) (image : Image) (objects : List Object) (frames : List FrameInfo) (k budget : ℕ) (input : List ℕ) : Type 0 where
   pub lines : (lines : List ℕ) (rest : Option (List ℕ)) (f : List ℕ) (things : List Thing) → ShowsAt image objects frames k budget input (Ok lines) rest →
-      ComesToCall p image stack input k f things → TellTrue p image objects k lines f things
+      IsPause p input k f things → TellTrue p image objects k lines f things
   pub walks : (address : ℕ) (rest : Option (List ℕ)) → ¬ ShowsAt image objects frames k budget input (Err address) rest

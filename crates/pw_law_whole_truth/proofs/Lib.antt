@@ -1,3 +1,4 @@
 pub mod Texts
 pub mod Globals
 pub mod Places
+pub mod Roomless

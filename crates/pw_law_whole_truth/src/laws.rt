@@ -34,7 +34,7 @@ pub fn full_builds_tell_the_truth()
     ensures { (texts : Texts) (opts : Opts) (parts : Parts) (p : Program) (frames : List FrameInfo) (k budget : ℕ) (input : List ℕ) →
         FullBuild texts opts (Ok parts) → IsProgramOf texts p → HavePlainNames texts → AreOpts opts →
         AreFrames parts.objects frames → AreBytes input → IsDefined (source_runs p (frame_in (image_of parts.objects opts.stack)) opts.stack input) →
-        ShowsTruth p (image_of parts.objects opts.stack) parts.objects frames opts.stack k budget input }
+        ShowsTruth p (image_of parts.objects opts.stack) parts.objects frames k budget input }
 {
     allocation_is_lawful();
     phase_one_is_exact();

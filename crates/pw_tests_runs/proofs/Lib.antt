@@ -24,3 +24,4 @@ mod RunEnds
 mod PremiseRows
 mod WrongRows
 mod LoweringRows
+mod UndefinedRows

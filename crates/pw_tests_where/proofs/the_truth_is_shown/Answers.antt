@@ -9,7 +9,7 @@ pub returns-clause-defined : goal.returns-clause-defined
 returns-clause-defined c = defined
 
 pub returns-clause-comes : goal.returns-clause-comes
-returns-clause-comes c = comes right_value
+returns-clause-comes c = comes
 
 pub returns-clause-shows : goal.returns-clause-shows
 unfolding digits

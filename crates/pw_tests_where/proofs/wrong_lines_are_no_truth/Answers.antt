@@ -9,4 +9,4 @@ use Rattle.pw_tests_where.proofs.wrong_lines_are_no_truth.Goals as goal
 
 pub returns : goal.returns
 unfolding digits
-returns c = λ truth. tells_nothing_wrong wrong_value (truth.lines wrong_lines (Some []) main_name things (shows wrong_value (holds c.text_words.ensures c.data_bytes.ensures.item wrong_value)) (comes wrong_value))
+returns c = λ truth. tells_nothing_wrong wrong_value (truth.lines wrong_lines (Some []) main_name things (shows wrong_value (holds c.text_words.ensures c.data_bytes.ensures.item wrong_value)) comes)

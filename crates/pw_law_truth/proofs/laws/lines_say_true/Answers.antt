@@ -3,32 +3,25 @@ use Rattle.std.specs.List.{AllByRecursion}
 use Rattle.std.specs.List.Sorted.{IsPermutation}
 use Rattle.std.proofs.Common.{arith, subst, sym, ap, refl, ◌∙◌}
 use Rattle.pw_flow.specs.declared.flow.FlowGlobal.{FlowGlobal}
-use Rattle.pw_machine.specs.Start.{image_start}
 use Rattle.pw_link.specs.Linking.{linked}
-use Rattle.pw_run.specs.Runs.{Refines}
-use Rattle.pw_run_languages.specs.FlowRun.{flow_run}
-use Rattle.pw_run_languages.specs.Programs.{NoneForLibrary, globals_of, names_of}
-use Rattle.pw_run_languages.specs.LinkingLaws.{frame_in, map_of}
-use Rattle.pw_law_source.specs.Source.{source_stages}
-use Rattle.pw_law_source.specs.Lowering.{MomentKept}
+use Rattle.pw_run_languages.specs.Programs.{globals_of, names_of}
+use Rattle.pw_run_languages.specs.LinkingLaws.{map_of}
 use Rattle.pw_law_linked.specs.Given.{IsGiven}
 use Rattle.pw_law_linked.proofs.Own.{right_distinct}
 use Rattle.pw_law_linked.proofs.Spans.{names_served}
-use Rattle.pw_law_pause.specs.Moments.{noted_within}
-use Rattle.pw_law_told.specs.Told.{world_of}
 use Rattle.pw_debug_frames.specs.Frames.{frame_info}
 use Rattle.pw_where.specs.declared.shown.Shown.{Shown}
 use Rattle.pw_where.specs.Calls.{of_modules}
 use Rattle.pw_where.specs.Shown.{call_line, shown_of}
 use Rattle.pw_where.specs.Looks.{AreShown, entries_in, name_at}
-use Rattle.pw_law_truth.proofs.Bytes.{have_bytes}
+use Rattle.pw_law_truth.proofs.Bytes.{bytes_at_pause}
 use Rattle.pw_law_truth.proofs.Places.{IsKnown, all_known, all_placed, known_there}
 use Rattle.pw_law_truth.proofs.Called.{entry_there, name_is}
-use Rattle.pw_law_truth.proofs.Lines.{all_ordered, all_true, has_lines, has_noted, has_text, lost_text, not_lost}
+use Rattle.pw_law_truth.proofs.Lines.{all_ordered, all_true, has_lines, has_text, lost_text, not_lost}
 use Rattle.pw_law_truth.proofs.laws.lines_say_true.Goals as goal
 
 pub returns : goal.returns
-returns c = λ p q d functions objects input k budget built located bytes direction places globals defined.
+returns c = λ p q d functions objects input k budget built located bytes direction places free_direction free_places globals defined.
     let image = linked objects q.stack in
     let program = built.implements.program in
     let given : IsGiven q d functions objects = record { program = program; apart = built.names; directives = built.database.directives; serve = built.serve; made = built.made; fits = built.fits } in
@@ -40,20 +33,11 @@ returns c = λ p q d functions objects input k budget built located bytes direct
     let ordered : (shown : List Shown) → AreShown image objects shown → AllByRecursion (IsKnown q image) shown =
     λ shown are. all_ordered (IsKnown q image) (shown_of (globals_of q) image.globals) shown (subst (λ (gs : List FlowGlobal). IsPermutation (shown_of gs image.globals) shown) built.made.globals are.same) known in
     let lawful = c.linked_addresses_are_lawful.ensures q d functions objects (λ g n. 0) program built.names built.serve built.made built.fits (λ g n. omega arith) in
-    let entries = c.linked_programs_have_their_entries.ensures q d functions objects program built.names built.serve built.made built.fits in
-    let holds = c.layers_compose.ensures c.selection_keeps_runs.ensures c.linking_keeps_runs.ensures p q d functions objects input built bytes direction places in
-    let none : NoneForLibrary q.frame_of = subst NoneForLibrary (sym built.frames) (c.maps_have_frames.ensures q d functions objects program built.serve built.made).library in
-    let runs : Refines (MomentKept q) (source_stages p (frame_in image) q.stack input) (flow_run q input) =
-    subst (λ (F : List ℕ → ℕ). Refines (MomentKept q) (source_stages p F q.stack input) (flow_run q input)) built.frames (built.implements.runs input none bytes) in
     record {
-      lines = λ lines rest f things shows comes.
-          let n = comes.bound in
-          let log = noted_within (world_of p (frame_in image) q.stack) input n in
-          let noted = has_noted p (frame_in image) q.stack input n (defined n) in
-          let stage = source_stages p (frame_in image) q.stack input n in
-          let have = have_bytes q stage log k f things (c.globals_have_their_bytes.ensures q input stage program (runs n)) noted comes.call in
+      lines = λ lines rest f things shows pause.
+          let have = bytes_at_pause c.globals_have_their_bytes.ensures p q input k f things program (built.implements.progress input bytes) pause in
           let core = shows.state.core in
-          let own = c.calls_are_those_of_the_source.ensures q (entries_in image objects) (map_of q functions image) (image_start image.memory) input (source_stages p (frame_in image) q.stack input) k shows.step n shows.state log f things entries holds.places shows.call noted comes.call in
+          let own = c.calls_are_those_of_the_program.ensures p q d functions objects input k shows.step shows.state f things built bytes direction places free_direction free_places defined shows.call pause in
           let name : name_at (of_modules objects image.functions) core.front ≡ f =
           name_is q functions objects core.front own.call.function built.made named lawful mapped placed.functions (entry_there (entries_in image objects) core shows.call.at) own.call.at_address ∙ own.function in
           let shown = shows.shows in
