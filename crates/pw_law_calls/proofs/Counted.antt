@@ -14,7 +14,7 @@ use Rattle.pw_run_languages.specs.MachineRun.{Map, globals_in, kept, noted, stag
 use Rattle.pw_law_layers.specs.Whole.{InMachine}
 use Rattle.pw_where.specs.Calls.{IsCall, one_if}
 use Rattle.pw_law_where.specs.Counting.{AreEntriesOf, NotesCall, source_calls}
-use Rattle.pw_law_calls.specs.Calls.{HasCalls, calls_among, refused_at}
+use Rattle.pw_law_calls.specs.Calls.{HasCalls, refused_at}
 use Rattle.pw_law_calls.proofs.Logs.{Events, IsCallIn, alone_counts, call_later, longer_counts}
 use Rattle.pw_law_calls.proofs.Alike.{all_shown, counts, noted_call}
 

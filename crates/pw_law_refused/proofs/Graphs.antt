@@ -10,7 +10,7 @@ use Rattle.pw_value.specs.ProgramNames.{start_name, exit_name, getchar_name, put
 use Rattle.pw_db.specs.declared.database.Directives.{Directives}
 use Rattle.pw_webflow.specs.declared.web.WebBlock.{WebBlock}
 use Rattle.pw_alloc.specs.declared.located.Located.{Located}
-use Rattle.pw_run.specs.Runs.{AreAlike, End, Going, Met, Over, Same, Stage, StackFull, View, Wrong}
+use Rattle.pw_run.specs.Runs.{AreAlike, End, Going, Over, Same, Stage, StackFull, View, Wrong}
 use Rattle.pw_db_sound.specs.CallGraphs.{Calls}
 use Rattle.pw_run_languages.specs.Traces.{Called, Event, EventAlike, Loaded, Notes, Refused, Returned, SameKind, Standing, Stored, called, calls_alone, calls_of, is_of_source, loaded, refused, returned, shown_by, stored}
 use Rattle.pw_run_languages.specs.Traffic.{Open, active}

@@ -1,5 +1,5 @@
 -- Stages and logs that are alike, and how many calls and returns of the source's functions stand in a log.
-use Rattle.std.proofs.Common.{◌≡◌, ℕ, suc, ◌+◌, ◌≤◌, Bool, true, false, if◌then◌else◌, List, [], ◌∷◌, ◌++◌, length, refl, sym, ap, subst, ◌∙◌, arith}
+use Rattle.std.proofs.Common.{◌≡◌, ℕ, suc, ◌+◌, Bool, true, false, if◌then◌else◌, List, [], ◌∷◌, ◌++◌, length, refl, sym, ap, subst, ◌∙◌, arith}
 use Rattle.std.proofs.lemmas.List.{length-append}
 use Rattle.pw_run.specs.Runs.{AreAlike, Going, Met, Over, Stage, StackFull, View, Wrong, End, none, also}
 use Rattle.pw_run_languages.specs.Traces.{Event, SameKind, call, calls_alone, is_shown, load, refusal, return, store}

@@ -19,7 +19,7 @@ use Rattle.pw_cmean.specs.Acts as acts
 use Rattle.pw_cmean.specs.Lasting.{state_behind}
 use Rattle.pw_cmean.specs.SourceRun.{run_main, seen, source_run}
 use Rattle.pw_cmean.specs.SourceRun as meaning
-use Rattle.pw_run.specs.Runs.{AreAlike, Ended, Going, Over, Refines, Same, Stage, StackFull, View}
+use Rattle.pw_run.specs.Runs.{AreAlike, Going, Over, Refines, Same, Stage, StackFull, View}
 use Rattle.pw_run_agreement.specs.Agreement.{IsDefined, IsMeaningful}
 use Rattle.pw_run_languages.specs.Traces.{Event, EventAlike, calls_alone, calls_of}
 use Rattle.pw_run_languages.specs.Late.{GoesLately, MetLately, RefinesLately}
@@ -41,10 +41,10 @@ use Rattle.pw_law_source.specs.Source.{end_of, shown as view_of, source_progress
 use Rattle.pw_law_source.specs.Lowering.{MomentKept}
 use Rattle.pw_law_layers.specs.Whole.{InMachine, LayersKeep, RefinementGoesThrough, image_of, roomless}
 use Rattle.pw_law_selection.specs.Following.{IsGiven}
-use Rattle.pw_where.specs.Calls.{IsCall, one_if}
+use Rattle.pw_where.specs.Calls.{IsCall}
 use Rattle.pw_law_where.specs.Counting.{AreEntriesOf}
 use Rattle.pw_law_pause.specs.Moments.{IsOlder, noted_within}
-use Rattle.pw_law_calls.specs.Calls.{HasCalls, HasNoted, IsCallOfSource, IsSourceCall, calls_among, is_call}
+use Rattle.pw_law_calls.specs.Calls.{HasCalls, HasNoted, IsCallOfSource, IsSourceCall, calls_among}
 use Rattle.pw_law_refused.specs.Refused.{HasShown, IsRefused, IsRefusedAlike, NotesRefused, behind, log_with_call}
 use Rattle.pw_law_refused.proofs.Logs.{alike_lengths, alike_weaker, has_latest, has_part, shows_alike, stops_alike}
 use Rattle.pw_law_told.specs.Told.{IsPause, world_of}

@@ -1,5 +1,5 @@
 -- The program by the meaning of C: it is defined, and calls `main` with its object as it was initialised.
-use Rattle.std.specs.Prelude.{ℕ, zero, suc, [], ◌∷◌}
+use Rattle.std.specs.Prelude.{zero, suc, [], ◌∷◌}
 use Rattle.std.proofs.Common.{refl}
 use Rattle.pw_value.specs.ProgramNames.{main_name}
 use Rattle.pw_cmean.specs.Acts as source

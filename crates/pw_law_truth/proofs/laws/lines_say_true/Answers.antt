@@ -5,7 +5,6 @@ use Rattle.std.proofs.Common.{arith, subst, sym, ap, refl, ◌∙◌}
 use Rattle.pw_flow.specs.declared.flow.FlowGlobal.{FlowGlobal}
 use Rattle.pw_link.specs.Linking.{linked}
 use Rattle.pw_run_languages.specs.Programs.{globals_of, names_of}
-use Rattle.pw_run_languages.specs.LinkingLaws.{map_of}
 use Rattle.pw_law_linked.specs.Given.{IsGiven}
 use Rattle.pw_law_linked.proofs.Own.{right_distinct}
 use Rattle.pw_law_linked.proofs.Spans.{names_served}
