@@ -1,8 +1,7 @@
 -- The objects of the globals have their bytes at the calls of the program.
-use Rattle.std.proofs.Common.{ℕ, ◌≤◌, List, [], ◌∷◌, ◌++◌, arith, refl, subst}
+use Rattle.std.proofs.Common.{ℕ, List, [], ◌∷◌, ◌++◌, refl, subst}
 use Rattle.std.specs.List.{AllByRecursion}
 use Rattle.pw_value.specs.Objects.{Object as Thing}
-use Rattle.pw_value.specs.Limits.{stack_limit}
 use Rattle.pw_cmean.specs.Worlds as source
 use Rattle.pw_cmean.specs.Acts.{Called, Moment, Undefined, StackFull, Exit, Bound, Outcome, Gives, Ends}
 use Rattle.pw_cmean.specs.Acts as acts
@@ -10,7 +9,7 @@ use Rattle.pw_cmean.specs.Lasting.{state_behind}
 use Rattle.pw_cmean.specs.SourceRun.{run_main, start_state}
 use Rattle.pw_run.specs.Runs.{Stage, Going, Over, Wrong, Met, Refines}
 use Rattle.pw_run_languages.specs.Traces.{Notes}
-use Rattle.pw_run_languages.specs.Programs.{AreBytes, Program}
+use Rattle.pw_run_languages.specs.Programs.{Program}
 use Rattle.pw_run_languages.specs.LawfulPrograms.{IsProgram}
 use Rattle.pw_run_languages.specs.FlowRun.{flow_run}
 use Rattle.pw_law_source.specs.Source.{source_progress, staged_within}
@@ -51,25 +50,13 @@ progress : (p : source.Program) (input : List ℕ) (n : ℕ) → HasNoted (sourc
 unfolding source_progress
 progress p input n = progress_by n (run_main (world_of p (λ f. 0) 0) n (start_state p input))
 
--- a lawful program is one there
-free : (q : Program) → IsProgram q → IsProgram (roomless q)
-free q h = record {
-  modules = h.modules;
-  order = h.order;
-  names = h.names;
-  defined = h.defined;
-  ops = h.ops;
-  items = h.items;
-  start = h.start;
-  start_takes_nothing = h.start_takes_nothing;
-  stack = (let none : 0 ≤ stack_limit = omega arith in none);
-}
-
 abbrev HaveBytes : Type 0
-HaveBytes = (q : Program) (input : List ℕ) (stage : Stage Moment) → IsProgram q → Met (MomentKept q) stage (flow_run q input) → Notes (AllByRecursion (HaveTheirBytesInC q)) stage
+HaveBytes =
+    (q : Program) (frame_of : List ℕ → ℕ) (stack : ℕ) (input : List ℕ) (stage : Stage Moment) → IsProgram q
+    → Met (MomentKept q) stage (flow_run (record q { frame_of = frame_of; stack = stack }) input) → Notes (AllByRecursion (HaveTheirBytesInC q)) stage
 
 pub bytes_at_pause : HaveBytes → (p : source.Program) (q : Program) (input : List ℕ) (k : ℕ) (f : List ℕ) (things : List Thing) → IsProgram q
-    → Refines (MomentKept (roomless q)) (source_progress p (λ f. 0) 0 input) (flow_run (roomless q) input) → IsPause p input k f things → HaveTheirBytes q things
+    → Refines (MomentKept q) (source_progress p (λ f. 0) 0 input) (flow_run (roomless q) input) → IsPause p input k f things → HaveTheirBytes q things
 bytes_at_pause law p q input k f things program runs pause =
     let stage = source_progress p (λ f. 0) 0 input pause.bound in
-    have_bytes (roomless q) stage (noted_within (world_of p (λ f. 0) 0) input pause.bound) k f things (law (roomless q) input stage (free q program) (runs pause.bound)) (progress p input pause.bound) pause.call
+    have_bytes q stage (noted_within (world_of p (λ f. 0) 0) input pause.bound) k f things (law q (λ f. 0) 0 input stage program (runs pause.bound)) (progress p input pause.bound) pause.call
