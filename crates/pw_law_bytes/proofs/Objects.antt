@@ -14,7 +14,7 @@ use Rattle.pw_flow.specs.declared.flow.Item.{Item}
 use Rattle.pw_flow.specs.declared.flow.Item.TheVariants.{Bytes, Address}
 use Rattle.pw_flow.specs.declared.flow.FlowGlobal.{FlowGlobal}
 use Rattle.pw_run_languages.specs.Programs.{Program, globals_of, item_bytes, with_items, object_of, start_objects}
-use Rattle.pw_run_languages.specs.LawfulPrograms.{IsItem, IsProgram}
+use Rattle.pw_run_languages.specs.LawfulPrograms.{IsItem}
 use Rattle.pw_run_languages.specs.FlowRun.{with_slots, end_from}
 use Rattle.pw_cmean.specs.Typed.{IsByte}
 use Rattle.pw_law_bytes.specs.Stored.{HaveTheirBytes}
@@ -159,8 +159,8 @@ module _ (p : Program) where
   all_small (g ∷ gs) each zero = items_small g.items (replicate g.size (B.Num 0)) (each g (0, omega arith, refl)) (same_small (B.Num 0) g.size (omega arith))
   all_small (g ∷ gs) each (suc n) = all_small gs (λ h there. each h (Contains-append_right (g ∷ []) gs h there)) n
 
-  pub start_kept : IsProgram p → KeepTheirBytes (start_objects p) (start_objects p)
-  start_kept program = record { count = omega arith; long = λ n below. refl; small = all_small (globals_of p) program.items }
+  pub start_kept : ((g : FlowGlobal) → Contains (globals_of p) g → AllByRecursion (λ i. IsItem p i.1) g.items) → KeepTheirBytes (start_objects p) (start_objects p)
+  start_kept items = record { count = omega arith; long = λ n below. refl; small = all_small (globals_of p) items }
 
   placed_at : (before : List FlowGlobal) (g : FlowGlobal) (after : List FlowGlobal) → object_at (map (object_of p) (before ++ g ∷ after)) (length before) ≡ object_of p g
   placed_at [] g after = refl

@@ -107,7 +107,11 @@ abbrev starts_by : Program → List ℕ → Option FlowFn → Step
 starts_by p input (Some f) = starts_at_by p input f (block_at f 0)
 starts_by p input None = Astray
 
-module _ (p : Program) where
+-- whatever frames functions take, and whatever the stack
+module _ (q : Program) (frame_of : List ℕ → ℕ) (stack : ℕ) where
+  abbrev p : Program
+  p = record q { frame_of = frame_of; stack = stack }
+
   -- ---- what is kept
 
   abbrev Stay : List Object → Type 0
@@ -142,7 +146,7 @@ module _ (p : Program) where
   poke_fine k Undefined v os h = tt
   poke_fine k (Num n) v os h = tt
   poke_fine k Null v os h = tt
-  poke_fine k (Piece q i) v os h = tt
+  poke_fine k (Piece x i) v os h = tt
 
   copy_in_fine : (o i from j size unit : ℕ) (os : List Object) → Stay os → StayIf (copy_in o i from j size unit os)
   copy_in_fine o i from j size unit os h =
@@ -212,10 +216,10 @@ module _ (p : Program) where
   branches_fine : (v : Value) (b c : ℕ) (m : Machine) → Fine m → StepFine (branches v b c m)
   branches_fine (Num zero) b c m h = jumps_fine c m h
   branches_fine (Num (suc n)) b c m h = jumps_fine b m h
-  branches_fine (At q) b c m h = choose StepFine (is_somewhere m.objects q) (jumps b m) Astray (jumps_fine b m h) tt
+  branches_fine (At x) b c m h = choose StepFine (is_somewhere m.objects x) (jumps b m) Astray (jumps_fine b m h) tt
   branches_fine Undefined b c m h = tt
   branches_fine Null b c m h = tt
-  branches_fine (Piece q i) b c m h = tt
+  branches_fine (Piece x i) b c m h = tt
 
   returns_fine : (v : Value) (m : Machine) (callers : List Frame) → Fine m → StepFine (returns_by v m callers)
   returns_fine v m [] h = tt
@@ -261,29 +265,29 @@ module _ (p : Program) where
 
   -- ---- the start
 
-  starts_at_fine : IsProgram p → (input : List ℕ) (f : FlowFn) (b : Option Block) → StepFine (starts_at_by p input f b)
+  starts_at_fine : IsProgram q → (input : List ℕ) (f : FlowFn) (b : Option Block) → StepFine (starts_at_by p input f b)
   starts_at_fine program input f None = tt
-  starts_at_fine program input f (Some b) = (slots_kept f.slots (start_objects p) (start_objects p) (start_kept p program), tt)
+  starts_at_fine program input f (Some b) = (slots_kept f.slots (start_objects p) (start_objects p) (start_kept p program.items), tt)
 
-  starts_fine : IsProgram p → (input : List ℕ) (f : Option FlowFn) → StepFine (starts_by p input f)
+  starts_fine : IsProgram q → (input : List ℕ) (f : Option FlowFn) → StepFine (starts_by p input f)
   starts_fine program input (Some f) = starts_at_fine program input f (block_at f 0)
   starts_fine program input None = tt
 
-  start_fine : IsProgram p → (input : List ℕ) → StepFine (start p input)
+  start_fine : IsProgram q → (input : List ℕ) → StepFine (start p input)
   start_fine program input = starts_fine program input (function_named p start_name)
 
   -- ---- what is noted
 
-  each_kept : (log : List Moment) → AllByRecursion Then log → AllByRecursion (HaveTheirBytesThen p) log
+  each_kept : (log : List Moment) → AllByRecursion Then log → AllByRecursion (HaveTheirBytesThen q) log
   each_kept [] all = tt
   each_kept (Called f os ∷ log) all = (are_kept p os all.0, each_kept log all.1)
   each_kept (Returned f os ∷ log) all = (are_kept p os all.0, each_kept log all.1)
 
-  staged_kept : (s : Step) → StepFine s → Notes (AllByRecursion (HaveTheirBytesThen p)) (staged s)
+  staged_kept : (s : Step) → StepFine s → Notes (AllByRecursion (HaveTheirBytesThen q)) (staged s)
   staged_kept (On m) h = each_kept m.moments h.1
   staged_kept (Stopped end m) h = each_kept m.moments h.1
   staged_kept Astray h = tt
 
-  pub run_kept : (input : List ℕ) (n : ℕ) → IsProgram p → Notes (AllByRecursion (HaveTheirBytesThen p)) (flow_run p input n)
+  pub run_kept : (input : List ℕ) (n : ℕ) → IsProgram q → Notes (AllByRecursion (HaveTheirBytesThen q)) (flow_run p input n)
   unfolding flow_run
   run_kept input n program = staged_kept (steps p n (start p input)) (steps_fine n (start p input) (start_fine program input))

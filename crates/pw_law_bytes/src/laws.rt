@@ -11,16 +11,18 @@ ghost use Rattle.pw_run_languages.specs.FlowRun.{flow_run};
 ghost use Rattle.pw_law_source.specs.Lowering.{MomentKept};
 ghost use Rattle.pw_law_bytes.specs.Stored.{HaveTheirBytesInC, HaveTheirBytesThen};
 
-/// At each call and return that a run of flow graphs notes, each global object has as many bytes as its size says, and each of
+/// At each call and return that a run of flow graphs notes, whatever frames its functions take and whatever the stack, each global object has as many bytes as its size says, and each of
 /// them that is a number is one of eight bits.
 pub fn flow_globals_keep_their_bytes()
-    ensures { (q : Program) (input : List ℕ) (n : ℕ) → IsProgram q → Notes (AllByRecursion (HaveTheirBytesThen q)) (flow_run q input n) }
+    ensures { (q : Program) (frame_of : List ℕ → ℕ) (stack : ℕ) (input : List ℕ) (n : ℕ) → IsProgram q →
+        Notes (AllByRecursion (HaveTheirBytesThen q)) (flow_run (record q { frame_of = frame_of; stack = stack }) input n) }
 {}
 
 /// So it is in C at each call and return that a stage of a program's run has noted, if a run of flow graphs meets this stage with the
 /// same globals.
 pub fn globals_have_their_bytes()
-    ensures { (q : Program) (input : List ℕ) (stage : Stage Moment) → IsProgram q → Met (MomentKept q) stage (flow_run q input) → Notes (AllByRecursion (HaveTheirBytesInC q)) stage }
+    ensures { (q : Program) (frame_of : List ℕ → ℕ) (stack : ℕ) (input : List ℕ) (stage : Stage Moment) → IsProgram q →
+        Met (MomentKept q) stage (flow_run (record q { frame_of = frame_of; stack = stack }) input) → Notes (AllByRecursion (HaveTheirBytesInC q)) stage }
 {
     flow_globals_keep_their_bytes();
 }

@@ -31,6 +31,7 @@ use Rattle.pw_where.specs.Shown.{number_of_shape, value_line}
 use Rattle.pw_where.specs.Looks.{Values, behind, lost_of, no_more, value_of}
 use Rattle.pw_law_calls.specs.Calls.{IsSmall}
 use Rattle.pw_law_told.specs.Told.{IsTold}
+use Rattle.pw_law_bytes.specs.Stored.{HasItsBytes, HaveTheirBytes}
 use Rattle.pw_law_truth.specs.Truth.{SaysTrue, definitions_of, lowered_definition, lines_of}
 use Rattle.pw_law_truth.proofs.Numbers.{kind_width, number_of, scalar_is, shape_number}
 use Rattle.pw_law_truth.proofs.Places.{IsKnown, same_place}
@@ -113,6 +114,7 @@ some_number x y e = cc
 module _ (p : source.Program) (q : Program) (v : Image) (frames : List FrameInfo) (core : Core) (things : List Thing)
     (globals : globals_of q ≡ map lowered_definition (definitions_of p))
     (distinct : AreDistinct (map (λ g. g.name) (globals_of q)))
+    (have : HaveTheirBytes q things)
     (tells : (number : ℕ) (g : FlowGlobal) (kind : Kind) (object : GlobalObject) (value w : ℕ) → IsTold q v number g kind object →
     length (object_at things number).bytes ≡ kind_size kind → AllByRecursion IsSmall (object_at things number).bytes → scalar_of kind (object_at things number).bytes ≡ Num w →
     WalksTo (seen core.memory v.functions frames object kind) (start_of core) (Ok value) → value ≡ w) where
@@ -137,10 +139,13 @@ module _ (p : source.Program) (q : Program) (v : Image) (frames : List FrameInfo
       let size : known.global.size ≡ kind_size s.number.kind = ap (λ (x : FlowGlobal). x.size) same.is ∙ (ap (bytes_of records) integer.integer ∙ (kind_width kind ∙ ap kind_size (sym k))) in
       let told : IsTold q v number known.global s.number.kind s.object =
       record { before = known.before; after = known.after; is = known.is; count = count; kind_is = kinds; size = size; name = known.name; place = known.place } in
-      let long = value.long ∙ (kind_width kind ∙ ap kind_size (sym k)) in
-      let scalar = subst (λ (x : Kind). scalar_of x (object_at things number).bytes ≡ Num w) (sym k) (scalar_is kind (object_at things number).bytes w value) in
+      let stored : HasItsBytes known.global.size (object_at things number).bytes =
+      subst (λ (n : ℕ). HasItsBytes known.global.size (object_at things n).bytes) count (have known.before known.after known.global known.is) in
+      let long = stored.long ∙ size in
+      let many = long ∙ sym (kind_width kind ∙ ap kind_size (sym k)) in
+      let scalar = subst (λ (x : Kind). scalar_of x (object_at things number).bytes ≡ Num w) (sym k) (scalar_is kind (object_at things number).bytes w many stored.small value) in
       record {
-        value = tells number known.global s.number.kind s.object said.1 w told long value.small scalar walks;
+        value = tells number known.global s.number.kind s.object said.1 w told long stored.small scalar walks;
         sign = ap (λ (n : Number). n.is_signed) is;
       }
 

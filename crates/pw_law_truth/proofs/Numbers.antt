@@ -126,14 +126,14 @@ unsigned bytes v long all e =
 in_word : (bytes : List Byte) (v : ℕ) → scalar_in bytes false ≡ Num v → word_or_pointer (scalar_in bytes false) (pointer_in bytes) ≡ Num v
 in_word bytes v e = ap (λ (x : Value). word_or_pointer x (pointer_in bytes)) e
 
--- the value of an integer type in bytes is that of the type's kind
-pub scalar_is : (k : IntKind) (bytes : List Byte) (v : ℕ) → IsValue k bytes v → scalar_of (kind_of_int k) bytes ≡ Num v
-scalar_is K.Char bytes v h = h.value
-scalar_is K.SChar bytes v h = h.value
-scalar_is K.UChar bytes v h = h.value
-scalar_is K.Short bytes v h = h.value
-scalar_is K.UShort bytes v h = h.value
-scalar_is K.Int bytes v h = in_word bytes v (unsigned bytes v h.long h.small h.value)
-scalar_is K.UInt bytes v h = in_word bytes v h.value
-scalar_is K.Long bytes v h = in_word bytes v (unsigned bytes v h.long h.small h.value)
-scalar_is K.ULong bytes v h = in_word bytes v h.value
+-- the value of an integer type in as many bytes as it has, each of eight bits, is that of the type's kind
+pub scalar_is : (k : IntKind) (bytes : List Byte) (v : ℕ) → length bytes ≡ size_of_kind k → AllByRecursion IsSmall bytes → IsValue k bytes v → scalar_of (kind_of_int k) bytes ≡ Num v
+scalar_is K.Char bytes v long all is = is
+scalar_is K.SChar bytes v long all is = is
+scalar_is K.UChar bytes v long all is = is
+scalar_is K.Short bytes v long all is = is
+scalar_is K.UShort bytes v long all is = is
+scalar_is K.Int bytes v long all is = in_word bytes v (unsigned bytes v long all is)
+scalar_is K.UInt bytes v long all is = in_word bytes v is
+scalar_is K.Long bytes v long all is = in_word bytes v (unsigned bytes v long all is)
+scalar_is K.ULong bytes v long all is = in_word bytes v is

@@ -7,7 +7,7 @@ use Rattle.pw_value.specs.Objects.{Object as Thing, object_at}
 use Rattle.pw_types.specs.declared.kind.IntKind.{IntKind}
 use Rattle.pw_types.specs.TypeTrees.{Int, type_of}
 use Rattle.pw_types.specs.TypedTrees.{GlobalValue}
-use Rattle.pw_types.specs.Conversions.{is_signed_kind, size_of_kind}
+use Rattle.pw_types.specs.Conversions.{is_signed_kind}
 use Rattle.pw_flow.specs.declared.flow.FlowGlobal.{FlowGlobal}
 use Rattle.pw_lower.specs.Modules.{lowered_global}
 use Rattle.pw_object.specs.declared.object.Object.{Object}
@@ -18,7 +18,6 @@ use Rattle.pw_where.specs.declared.shown.Shown.{Shown}
 use Rattle.pw_where.specs.Shown.{call_line, value_line}
 use Rattle.pw_where.specs.Looks.{AreShown, ShowsAt}
 use Rattle.pw_debug.specs.declared.info.FrameInfo.{FrameInfo}
-use Rattle.pw_law_calls.specs.Calls.{IsSmall}
 pub use Rattle.pw_law_told.specs.Told.{ComesToCall, IsPause}
 
 -- ---- the program
@@ -42,11 +41,9 @@ pub record IsInteger (p : Program) (name : List ℕ) (number : ℕ) (kind : IntK
   pub named : full_name home.name global.name ≡ name
   pub integer : type_of global.ty ≡ Int kind
 
--- Bytes that are numbers of eight bits, as many as an integer type has, and the value of the type that they are.
-pub record IsValue (kind : IntKind) (bytes : List Byte) (v : ℕ) : Type 0 where
-  pub long : length bytes ≡ size_of_kind kind
-  pub small : AllByRecursion IsSmall bytes
-  pub value : value_in (Int kind) bytes ≡ Num v
+-- Bytes that are a number: the value of the integer type that they are. Where one of them is undefined, or a pointer's, they are none.
+abbrev pub IsValue : IntKind → List Byte → ℕ → Type 0
+IsValue kind bytes v = value_in (Int kind) bytes ≡ Num v
 
 -- ---- the lines
 

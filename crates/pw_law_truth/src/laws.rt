@@ -16,6 +16,7 @@ ghost use Rattle.pw_law_layers.specs.Whole.{IsBuilt, image_of, roomless};
 ghost use Rattle.pw_debug_frames.specs.Frames.{frame_info};
 ghost use Rattle.pw_law_truth.specs.Truth.{ShowsTruth, definitions_of, lowered_definition};
 
+use pw_law_bytes::laws::globals_have_their_bytes;
 use pw_law_code::code::{linked_addresses_are_lawful, maps_name_the_program};
 use pw_law_told::laws::{
     calls_are_those_of_the_program, programs_come_to_their_calls, values_are_those_of_the_program,
@@ -34,6 +35,7 @@ pub fn lines_say_true()
 {
     linked_addresses_are_lawful();
     maps_name_the_program();
+    globals_have_their_bytes();
     calls_are_those_of_the_program();
     programs_come_to_their_calls();
     values_are_those_of_the_program();

@@ -1,5 +1,5 @@
 -- The lines of the program's one object, which are true where they say -2, and where they say another value are not.
-use Rattle.std.proofs.Common.{◌≡◌, ℕ, List, [], ◌∷◌, ◌++◌, map, length, refl, sym, ap, ◌∙◌, subst, arith, lit<}
+use Rattle.std.proofs.Common.{◌≡◌, ℕ, List, [], ◌∷◌, ◌++◌, map, length, refl, sym, ap, ◌∙◌, subst, arith}
 use Rattle.std.specs.Prelude.{slice_index}
 use Rattle.std.specs.Fmt.{digits}
 use Rattle.std.specs.List.{AllByRecursion}
@@ -74,7 +74,7 @@ says said is n k v integer value =
     let ty : Int kind.Short ≡ Int k = ap (λ (g : GlobalValue). type_of g.ty) o.global_is ∙ integer.integer in
     let same : kind.Short ≡ k = same_kind kind.Short k ty in
     let own : value_in (Int kind.Short) (object_at things 0).bytes ≡ Num v =
-    subst (λ (i : ℕ). value_in (Int kind.Short) (object_at things i).bytes ≡ Num v) at (subst (λ (j : IntKind). value_in (Int j) (object_at things n).bytes ≡ Num v) (sym same) value.value) in
+    subst (λ (i : ℕ). value_in (Int kind.Short) (object_at things i).bytes ≡ Num v) at (subst (λ (j : IntKind). value_in (Int j) (object_at things n).bytes ≡ Num v) (sym same) value) in
     let there : Num number ≡ Num v = own in
     record { value = is ∙ same_number number v there; sign = ap is_signed_kind same }
 
@@ -88,7 +88,7 @@ is_integer : IsInteger program s_name 0 kind.Short
 is_integer = record { before = []; home = module_a; global = s; after = []; is = refl; count = refl; named = refl; integer = refl }
 
 is_value : IsValue kind.Short (object_at things 0).bytes number
-is_value = record { long = refl; small = (lit< tt, (lit< tt, tt)); value = refl }
+is_value = refl
 
 record IsOne (values : List (Shown × ℕ)) : Type 0 where
   said : ℕ

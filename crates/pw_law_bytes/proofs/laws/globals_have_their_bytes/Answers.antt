@@ -3,4 +3,5 @@ use Rattle.pw_law_bytes.proofs.Noted.{stage_kept}
 use Rattle.pw_law_bytes.proofs.laws.globals_have_their_bytes.Goals as goal
 
 pub returns : goal.returns
-returns c = λ q input stage program met. stage_kept q stage (flow_run q input) (λ n. c.flow_globals_keep_their_bytes.ensures q input n program) met
+returns c = λ q frame_of stack input stage program met.
+    stage_kept q stage (flow_run (record q { frame_of = frame_of; stack = stack }) input) (λ n. c.flow_globals_keep_their_bytes.ensures q frame_of stack input n program) met

@@ -13,6 +13,7 @@ use Rattle.pw_where.specs.declared.shown.Shown.{Shown}
 use Rattle.pw_where.specs.Calls.{of_modules}
 use Rattle.pw_where.specs.Shown.{call_line, shown_of}
 use Rattle.pw_where.specs.Looks.{AreShown, entries_in, name_at}
+use Rattle.pw_law_truth.proofs.Bytes.{bytes_at_pause}
 use Rattle.pw_law_truth.proofs.Places.{IsKnown, all_known, all_placed, known_there}
 use Rattle.pw_law_truth.proofs.Called.{entry_there, name_is}
 use Rattle.pw_law_truth.proofs.Lines.{all_ordered, all_true, has_lines, has_text, lost_text, not_lost}
@@ -34,6 +35,7 @@ returns c = λ p q d functions objects input k budget built located bytes direct
     record {
       comes = λ lines rest shows. c.programs_come_to_their_calls.ensures p q d functions objects input k shows.step shows.state built bytes direction places defined shows.call;
       lines = λ lines rest f things shows pause.
+          let have = bytes_at_pause c.globals_have_their_bytes.ensures p q input k f things program (built.implements.progress input bytes) pause in
           let core = shows.state.core in
           let own = c.calls_are_those_of_the_program.ensures p q d functions objects input k shows.step shows.state f things built bytes direction places free_direction free_places defined shows.call pause in
           let name : name_at (of_modules objects image.functions) core.front ≡ f =
@@ -47,7 +49,7 @@ returns c = λ p q d functions objects input k budget built located bytes direct
             values = l.values;
             shown = subst (λ (gs : List Shown). AreShown image objects gs) (sym l.of) same;
             are = t.is ∙ (ap (λ (g : List ℕ). call_line k g ++ t.text) name ∙ ap (λ (text : List ℕ). call_line k f ++ text) l.is);
-            say = all_true p q image (map frame_info functions) core things globals (right_distinct (names_of q) (map (λ (g : FlowGlobal). g.name) (globals_of q)) program.names)
+            say = all_true p q image (map frame_info functions) core things globals (right_distinct (names_of q) (map (λ (g : FlowGlobal). g.name) (globals_of q)) program.names) have
                 (λ number g kind object value w told long small scalar walk.
                 c.values_are_those_of_the_program.ensures p q d functions objects input k shows.step shows.state f things number g kind object value w built located bytes direction places defined shows.call own told long small scalar walk)
                 l.values (subst (λ (gs : List Shown). AllByRecursion (IsKnown q image) gs) (sym l.of) all) l.walks;
