@@ -5,7 +5,7 @@ mod Composition
 mod Frames
 mod Guarding
 mod Holding
-pub mod Roomless
+mod Roomless
 pub mod Starts
 pub mod Fitting
 pub mod MapFrames
