@@ -1,7 +1,7 @@
 -- Acts one of which is cut short by its bound: what it noted up to there the other noted too.
-use Rattle.std.proofs.Common.{ℕ, ◌≤◌, ◌≡◌, refl, sym, ap, ◌∙◌, Bool, List, [], ◌∷◌, ◌++◌, append_assoc, length}
+use Rattle.std.proofs.Common.{ℕ, ◌≤◌, refl, sym, ap, ◌∙◌, Bool, List, [], ◌∷◌, ◌++◌, append_assoc, length}
 use Rattle.pw_cmean.specs.Worlds.{World}
-use Rattle.pw_cmean.specs.Acts.{Act, State, Moment, Called, Returned, Outcome, Gives, Ends, Ending, Bound, give, stop, go_on, ◌>>=◌, look, make, end_object, write, next_byte, get_char, put_char, called, returned, during, with_object}
+use Rattle.pw_cmean.specs.Acts.{Act, State, Moment, Called, Returned, Outcome, Gives, Ends, Bound, give, stop, go_on, ◌>>=◌, look, make, end_object, write, next_byte, get_char, put_char, called, returned, during, with_object}
 use Rattle.pw_cmean.specs.SourceRun.{run_main, start_state}
 use Rattle.pw_cmean.specs.Lasting.{state_behind}
 use Rattle.pw_cmean.proofs.ActLaws.{Laws}

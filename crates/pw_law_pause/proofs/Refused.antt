@@ -1,10 +1,10 @@
 -- Acts of two worlds, of which the first may be cut short for want of room on the stack: at a call of a module's function, which the
 -- second notes next. A function of the library, which takes no room, is not refused in a function that has room itself.
-use Rattle.std.proofs.Common.{ℕ, ◌≡◌, ◌+◌, ◌⊎◌, Bool, true, false, true≢false, Option, Some, None, List, [], ◌∷◌, ◌++◌, length, arith, refl, sym, ap, ◌∙◌, subst, inl, inr}
+use Rattle.std.proofs.Common.{ℕ, ◌≡◌, ◌+◌, ◌⊎◌, Bool, true, false, true≢false, Option, Some, None, List, [], ◌∷◌, arith, refl, sym, ap, ◌∙◌, subst, inl, inr}
 use Rattle.std.specs.Prelude.{nat_lt, Contains}
-use Rattle.pw_value.specs.ProgramNames.{start_name, library_functions}
+use Rattle.pw_value.specs.ProgramNames.{library_functions}
 use Rattle.pw_cmean.specs.Worlds.{World, depth}
-use Rattle.pw_cmean.specs.Acts.{Act, State, Moment, Called, Outcome, Gives, Ends, Ending, StackFull, Wrong, give, stop, go_on, ◌>>=◌, ◌>>◌, branch, wrong, need, look, make, end_object, write, next_byte, get_char, put_char, called, returned, during, with_object}
+use Rattle.pw_cmean.specs.Acts.{Act, State, Called, Outcome, Gives, Ends, Ending, StackFull, Wrong, give, stop, go_on, ◌>>=◌, branch, wrong, need, look, make, end_object, write, next_byte, get_char, put_char, called, returned, during, with_object}
 use Rattle.pw_cmean.specs.Evaluation.{take_room}
 use Rattle.pw_cmean.specs.Lasting.{state_behind, KeepsActive}
 use Rattle.pw_cmean.proofs.ActLaws.{take_room-r}

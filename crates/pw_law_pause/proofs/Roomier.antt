@@ -1,6 +1,6 @@
 -- A run of a program, and its run where there is more room on the stack: the one is the other, or it was cut short for want
 -- of room at a call, which the other notes next.
-use Rattle.std.proofs.Common.{ℕ, zero, suc, ◌≡◌, ◌%◌, Bool, true, false, List, [], ◌∷◌, ◌++◌, Option, Some, None, arith, refl, ap}
+use Rattle.std.proofs.Common.{ℕ, zero, suc, ◌≡◌, ◌%◌, Bool, true, List, [], ◌∷◌, Option, Some, None, arith, refl, ap}
 use Rattle.std.specs.Prelude.{nat_lt}
 use Rattle.pw_value.specs.declared.value.Value.{Value}
 use Rattle.pw_value.specs.declared.value.Value.TheVariants as V
@@ -8,15 +8,15 @@ use Rattle.pw_types.specs.TypeTrees.{CType, QType}
 use Rattle.pw_types.specs.declared.tree.BinaryOperator.{BinaryOperator}
 use Rattle.pw_types.specs.declared.tree.StepOperator.{StepOperator}
 use Rattle.pw_types.specs.TypedTrees.{Symbol, Hidden, Expression, Node, Number, Str, Local, Global, Function, Unary, Binary, Logic, Cond, Comma, Assign, Compound, Step, Cast, Decay, Member, Deref, Address, Call, CallValue, Expressions, NoExpression, OneExpression, Initialiser, Value as ByValue, Bytes as ByBytes, Statement, Empty, Evaluate, Block, If, While, Do, For, Switch, Label, Goto, Break, Continue, Return, Arms, NoArm, Arm, Otherwise, NoElse, Else, Statements, NoStatement, OneStatement}
-use Rattle.pw_types.specs.Labels.{labels_among, labels_of_arms, labels_behind}
+use Rattle.pw_types.specs.Labels.{labels_among, labels_behind}
 use Rattle.pw_value.specs.ProgramNames.{start_name, main_name}
 use Rattle.pw_cmean.specs.Worlds.{World, Callable, Body, Defined, Library, LibraryFunction, GetChar, PutChar, ExitRun, depth, full_name, function_named}
 use Rattle.pw_cmean.specs.Acts.{Act, State, Called, Ends, Site, Bound, StackFull, Exit, give, branch, ◌>>=◌, ◌>>◌}
 use Rattle.pw_cmean.specs.Evaluation.{Env, Calls, local_place, symbol_place, used, value_at, old_value, update, step, bounded_call, library_call, callee_of, call_body, call, call_value, answer_of, place_of, values_of}
-use Rattle.pw_cmean.specs.Execution.{Entry, Front, At_label, Flow, Normal, Breaks, Continues, Returns, Goes, caught, taking_up, go_forward, after_body, turn, loop, meet_loop, always, value_of, condition, for_condition, drop_value, switch_to, after_switch, with_number, with_locals, set_local, initialise, initialise_all, behind_labels, meaning, items, arms, behind_arms}
-use Rattle.pw_cmean.specs.SourceRun.{outermost, set_parameters, result_of, run_body, callee, calls, finish, run_main, start_state}
+use Rattle.pw_cmean.specs.Execution.{Entry, Front, At_label, Flow, Normal, taking_up, turn, loop, meet_loop, always, value_of, condition, for_condition, drop_value, with_number, with_locals, set_local, initialise, initialise_all, behind_labels, meaning, items, arms, behind_arms}
+use Rattle.pw_cmean.specs.SourceRun.{outermost, set_parameters, run_body, callee, calls, run_main, start_state}
 use Rattle.pw_law_pause.specs.Moments.{IsOlder, HasRoom, noted_within, with_stack}
-use Rattle.pw_law_pause.proofs.Steps.{Steps, bind-r, branch-r, wrong-r, need-r, judge-r, within-r, put-r, truth-r, unary-r, advance-r, binary-r, used-r, value_at-r, cast-r, old_value-r, update-r, step-r, operand-r, go_forward-r, caught-r, after_body-r, switch_to-r, after_switch-r, result_of-r, finish-r}
+use Rattle.pw_law_pause.proofs.Steps.{Steps, bind-r, branch-r, wrong-r, need-r, judge-r, within-r, put-r, truth-r, unary-r, advance-r, binary-r, value_at-r, cast-r, old_value-r, update-r, step-r, operand-r, go_forward-r, caught-r, after_body-r, switch_to-r, after_switch-r, result_of-r, finish-r}
 use Rattle.pw_law_pause.proofs.Named.{NamedBy, IsNamed, named_rightly, called_rightly}
 use Rattle.pw_law_pause.proofs.Refused.{LibraryTakesNone, IsRoomier, steps, needed, enters, answers, cut-older, next-of}
 

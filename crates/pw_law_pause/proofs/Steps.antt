@@ -1,6 +1,6 @@
 -- A relation between acts that says something of calls by itself: where it holds of each other primitive act, and of acts in
 -- order, it holds of what expressions and statements are made of. (Of a relation that holds of calls too, pw_cmean says it.)
-use Rattle.std.proofs.Common.{ℕ, ◌%◌, Bool, true, false, List, [], ◌∷◌, Option, Some, None, Result, Ok, Err}
+use Rattle.std.proofs.Common.{ℕ, ◌%◌, Bool, true, false, List, Option, Some, None, Result, Ok, Err}
 use Rattle.std.specs.Prelude.{ℤ}
 use Rattle.pw_value.specs.declared.value.Value.{Value}
 use Rattle.pw_value.specs.declared.value.Value.TheVariants as V
@@ -25,7 +25,7 @@ use Rattle.pw_cmean.specs.Operators.{truth, outcome_of, on_numbers, unary_number
 use Rattle.pw_cmean.specs.Evaluation.{Env, local_place, symbol_place, used, value_by, value_at, cast, old_value, update, step}
 use Rattle.pw_value.specs.declared.words.WordFault.{WordFault}
 use Rattle.pw_value.specs.declared.words.WordFault.TheVariants.{Overflow, ZeroDivisor, ShiftCount}
-use Rattle.pw_cmean.specs.Execution.{Entry, At_label, Flow, Normal, Breaks, Continues, Returns, Goes, go_forward, caught, after_body, switch_to, after_switch}
+use Rattle.pw_cmean.specs.Execution.{Entry, Flow, Normal, Breaks, Continues, Returns, Goes, go_forward, caught, after_body, switch_to, after_switch}
 use Rattle.pw_cmean.specs.SourceRun.{result_of, finish}
 
 -- a run may end so but for want of stack
