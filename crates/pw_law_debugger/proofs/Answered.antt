@@ -32,7 +32,7 @@ use Rattle.pw_run_agreement.specs.Agreement.{IsDefined}
 use Rattle.pw_run_languages.specs.LinkingLaws.{frame_in}
 use Rattle.pw_law_source.specs.Source.{source_runs}
 use Rattle.pw_law_layers.specs.Whole.{image_of}
-use Rattle.pw_law_truth.specs.Truth.{IsPause, ShowsTruth, TellTrue}
+use Rattle.pw_law_truth.specs.Truth.{ComesToCall, IsPause, ShowsTruth, TellTrue}
 use Rattle.pw_law_debugger.specs.Debugger.{LosesUndefined, TellsTruth}
 
 -- the answers to a look at a call
@@ -118,6 +118,8 @@ module _ (shown : Files) (opts : RunOpts) (k : ℕ) (input : List ℕ) (effect :
           contents = l.contents;
           file = l.file;
           objects = l.parts.objects;
+          comes = subst (λ (v : Image). IsDefined (source_runs p (frame_in v) opts.build.stack input) → ComesToCall p input k) (sym l.value)
+              (λ defined. (law (all_fresh l.parts) l.frames l.full l.are defined).comes effect.output (Some l.showed.0) l.showed.1);
           tells = subst (λ (v : Image). IsDefined (source_runs p (frame_in v) opts.build.stack input) → (f : List ℕ) (things : List Thing) →
               IsPause p input k f things → TellTrue p v l.parts.objects k effect.output f things) (sym l.value)
               (λ defined f things pause. (law (all_fresh l.parts) l.frames l.full l.are defined).lines effect.output (Some l.showed.0) f things l.showed.1 pause);

@@ -12,10 +12,10 @@ use Rattle.pw_cmean.specs.Worlds.{Program}
 use Rattle.pw_run_agreement.specs.Agreement.{IsDefined}
 use Rattle.pw_run_languages.specs.LinkingLaws.{frame_in}
 use Rattle.pw_law_source.specs.Source.{source_runs}
-use Rattle.pw_law_truth.specs.Truth.{IsPause, TellTrue}
+use Rattle.pw_law_truth.specs.Truth.{ComesToCall, IsPause, TellTrue}
 
--- The lines are true of the program's k-th call over the input, if it comes to one, and is defined on the input with the frames of the
--- image and its stack.
+-- If the program is defined on the input, with the frames of the image and its stack, it comes to its k-th call over the input, and
+-- the lines are true of it.
 pub record TellsTruth (shown : Files) (opts : RunOpts) (k : ℕ) (input lines : List ℕ) (p : Program) : Type 0 where
   -- the image of the full build of the modules that a build sees
   pub bytes : List ℕ
@@ -24,6 +24,7 @@ pub record TellsTruth (shown : Files) (opts : RunOpts) (k : ℕ) (input lines : 
   pub file : IsImageFile bytes contents
   -- the objects of which it was linked
   pub objects : List Object
+  pub comes : IsDefined (source_runs p (frame_in contents.value) opts.build.stack input) → ComesToCall p input k
   pub tells : IsDefined (source_runs p (frame_in contents.value) opts.build.stack input) → (f : List ℕ) (things : List Thing) →
       IsPause p input k f things → TellTrue p contents.value objects k lines f things
 

@@ -26,7 +26,7 @@ use pw_store_texts::files_are_seen_in_one_way;
 
 /// The debugger tells the truth. Where `where K` over a store whose kept objects are genuine is answered with lines, these are
 /// true of the C program that the store's modules are, as a build sees them, at its K-th call over the input: if the program is
-/// defined on the input and comes to the call, the first line names the function that is called, and each line of a global that has
+/// defined on the input, it comes to the call, the first line names the function that is called, and each line of a global that has
 /// a value of an integer type then says that value. So it is also of a call for which the stack has no room.
 pub fn the_debugger_tells_the_truth()
     ensures { (files shown : Files) (opts : RunOpts) (k : ℕ) (input : List ℕ) (effect : Effect) (p : Program) → AreOpts opts.build → KeepsGenuine files → AreBytes input →

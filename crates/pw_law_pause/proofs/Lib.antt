@@ -1,2 +1,5 @@
-pub mod Cutting
-pub mod Roomier
+mod Cutting
+mod Steps
+mod Named
+mod Refused
+mod Roomier

@@ -1,38 +1,45 @@
 -- A run of a program, and its run where there is more room on the stack: the one is the other, or it was cut short for want
--- of room.
-use Rattle.std.proofs.Common.{ℕ, zero, suc, ◌≡◌, Bool, true, false, List, [], ◌∷◌, ◌++◌, Option, Some, None, refl}
+-- of room at a call, which the other notes next.
+use Rattle.std.proofs.Common.{ℕ, zero, suc, ◌≡◌, ◌%◌, Bool, true, List, [], ◌∷◌, Option, Some, None, arith, refl, ap}
 use Rattle.std.specs.Prelude.{nat_lt}
 use Rattle.pw_value.specs.declared.value.Value.{Value}
 use Rattle.pw_value.specs.declared.value.Value.TheVariants as V
 use Rattle.pw_types.specs.TypeTrees.{CType, QType}
 use Rattle.pw_types.specs.declared.tree.BinaryOperator.{BinaryOperator}
 use Rattle.pw_types.specs.declared.tree.StepOperator.{StepOperator}
-use Rattle.pw_types.specs.TypedTrees.{Symbol, Hidden, Expression, Node, Number, Str, Local, Global, Function, Unary, Binary, Logic, Cond, Comma, Assign, Compound, Step, Cast, Decay, Member, Deref, Address, Call, CallValue, Expressions, NoExpression, OneExpression, Initialiser, Value as ByValue, Bytes as ByBytes, Statement, Evaluate, Block, If, While, Do, For, Switch, Label, Return, Arms, NoArm, Arm, Otherwise, NoElse, Else, Statements, NoStatement, OneStatement}
+use Rattle.pw_types.specs.TypedTrees.{Symbol, Hidden, Expression, Node, Number, Str, Local, Global, Function, Unary, Binary, Logic, Cond, Comma, Assign, Compound, Step, Cast, Decay, Member, Deref, Address, Call, CallValue, Expressions, NoExpression, OneExpression, Initialiser, Value as ByValue, Bytes as ByBytes, Statement, Empty, Evaluate, Block, If, While, Do, For, Switch, Label, Goto, Break, Continue, Return, Arms, NoArm, Arm, Otherwise, NoElse, Else, Statements, NoStatement, OneStatement}
 use Rattle.pw_types.specs.Labels.{labels_among, labels_behind}
-use Rattle.pw_cmean.specs.Worlds.{World, Callable, Body, Defined, Library, LibraryFunction, GetChar, PutChar, ExitRun, depth}
-use Rattle.pw_cmean.specs.Acts.{Act, Site, Bound, StackFull, give, stop, branch, ◌>>=◌, ◌>>◌}
-use Rattle.pw_cmean.specs.Evaluation.{Env, Calls, local_place, symbol_place, used, value_at, old_value, update, step, bounded_call, take_room, library_call, call_body, call, call_value, answer_of, place_of, values_of}
+use Rattle.pw_value.specs.ProgramNames.{start_name, main_name}
+use Rattle.pw_cmean.specs.Worlds.{World, Callable, Body, Defined, Library, LibraryFunction, GetChar, PutChar, ExitRun, depth, full_name, function_named}
+use Rattle.pw_cmean.specs.Acts.{Act, State, Called, Ends, Site, Bound, StackFull, Exit, give, branch, ◌>>=◌, ◌>>◌}
+use Rattle.pw_cmean.specs.Evaluation.{Env, Calls, local_place, symbol_place, used, value_at, old_value, update, step, bounded_call, library_call, callee_of, call_body, call, call_value, answer_of, place_of, values_of}
 use Rattle.pw_cmean.specs.Execution.{Entry, Front, At_label, Flow, Normal, taking_up, turn, loop, meet_loop, always, value_of, condition, for_condition, drop_value, with_number, with_locals, set_local, initialise, initialise_all, behind_labels, meaning, items, arms, behind_arms}
 use Rattle.pw_cmean.specs.SourceRun.{outermost, set_parameters, run_body, callee, calls, run_main, start_state}
-use Rattle.pw_cmean.proofs.ActLaws.{bind-r, branch-r, wrong-r, need-r, judge-r, within-r, put-r, truth-r, unary-r, advance-r, binary-r, value_at-r, cast-r, old_value-r, update-r, step-r}
-use Rattle.pw_cmean.proofs.TreeLaws.{operand-r, go_forward-r, caught-r, after_body-r, switch_to-r, after_switch-r, result_of-r, finish-r}
 use Rattle.pw_law_pause.specs.Moments.{IsOlder, HasRoom, noted_within, with_stack}
-use Rattle.pw_law_pause.proofs.Cutting.{IsFurther, stop-c, cutting, cut-older}
+use Rattle.pw_law_pause.proofs.Steps.{Steps, bind-r, branch-r, wrong-r, need-r, judge-r, within-r, put-r, truth-r, unary-r, advance-r, binary-r, value_at-r, cast-r, old_value-r, update-r, step-r, operand-r, go_forward-r, caught-r, after_body-r, switch_to-r, after_switch-r, result_of-r, finish-r}
+use Rattle.pw_law_pause.proofs.Named.{NamedBy, IsNamed, named_rightly, called_rightly}
+use Rattle.pw_law_pause.proofs.Refused.{LibraryTakesNone, IsRoomier, steps, needed, enters, answers, cut-older, next-of}
 
 -- an environment in a world
 abbrev pub under : World → Env → Env
 under w e = record e { world = w }
 
--- what calls do at each bound, in the one world and in the other
-abbrev pub AreFurther : Calls → Calls → Type 0
-AreFurther [] [] = Unit {0}
-AreFurther (c ∷ cs) (c' ∷ cs') = ((f : Callable) (args : List Value) → IsFurther (Option Value) (c f args) (c' f args)) × AreFurther cs cs'
-AreFurther _ _ = ⊥
-
 -- the worlds are of one program, and wherever the first has room the second has
 module _ (w : World) (frame_of : List ℕ → ℕ) (stack : ℕ) (room : (active : List (List ℕ)) → HasRoom w active → HasRoom (with_stack frame_of stack w) active) where
   abbrev roomy : World
   roomy = with_stack frame_of stack w
+
+  abbrev IsFurther : (A : Type 0) → Act A → Act A → Type 0
+  IsFurther A m m' = IsRoomier w roomy A m m'
+
+  cutting : Steps IsFurther
+  cutting = steps w roomy
+
+  -- what calls do at each bound, in the one world and in the other
+  abbrev AreFurther : Calls → Calls → Type 0
+  AreFurther [] [] = Unit {0}
+  AreFurther (c ∷ cs) (c' ∷ cs') = ((f : Callable) (args : List Value) → IsFurther (Option Value) (c f args) (c' f args)) × AreFurther cs cs'
+  AreFurther _ _ = ⊥
 
   -- ---- acts
 
@@ -41,19 +48,6 @@ module _ (w : World) (frame_of : List ℕ → ℕ) (stack : ℕ) (room : (active
 
   branch-f : {A : Type 0} (b : Bool) {m m' n n' : Act A} → IsFurther A m m' → IsFurther A n n' → IsFurther A (branch b m n) (branch b m' n')
   branch-f b p q = branch-r IsFurther cutting b p q
-
-  full-f : (b b' : Bool) → (b ≡ false → b' ≡ false) → IsFurther (Unit {0}) (branch b (stop StackFull) (give tt)) (branch b' (stop StackFull) (give tt))
-  unfolding branch
-  full-f true true p = cutting.stops (Unit {0}) StackFull
-  full-f true false p = ((cutting.gives (Unit {0}) tt).0, stop-c StackFull (give tt) tt (cutting.gives (Unit {0}) tt).0)
-  full-f false true p = absurd (let e : true ≡ false = p refl in cc)
-  full-f false false p = cutting.gives (Unit {0}) tt
-
-  take_room-f : (name : List ℕ) → IsFurther (Unit {0}) (take_room w name) (take_room roomy name)
-  unfolding take_room
-  take_room-f name =
-      bind-f (cutting.looks (List (List ℕ)) (λ s. s.active)) λ active.
-      full-f (nat_lt w.stack (depth w (name ∷ active))) (nat_lt roomy.stack (depth roomy (name ∷ active))) (room (name ∷ active))
 
   -- ---- parts of expressions
 
@@ -91,29 +85,30 @@ module _ (w : World) (frame_of : List ℕ → ℕ) (stack : ℕ) (room : (active
   unfolding library_call
   library-f GetChar [] = bind-f cutting.gets λ b. cutting.gives (Option Value) _
   library-f PutChar (V.Num n ∷ []) = bind-f (cutting.puts _) λ u. cutting.gives (Option Value) _
-  library-f ExitRun (V.Num n ∷ []) = cutting.stops (Option Value) _
+  library-f ExitRun (V.Num n ∷ []) = cutting.stops (Option Value) (Exit (n % 256)) tt
   library-f _ _ = wrong-r IsFurther cutting (Option Value)
 
   bounded-f : (cs cs' : Calls) (f : Callable) (args : List Value) → AreFurther cs cs' → IsFurther (Option Value) (bounded_call cs f args) (bounded_call cs' f args)
   unfolding bounded_call
-  bounded-f [] [] f args h = cutting.stops (Option Value) Bound
+  bounded-f [] [] f args h = cutting.stops (Option Value) Bound tt
   bounded-f [] (c' ∷ cs') f args h = absurd h
   bounded-f (c ∷ cs) [] f args h = absurd h
   bounded-f (c ∷ cs) (c' ∷ cs') f args h = h.0 f args
 
-  body-f : (cs cs' : Calls) (b : Body) (f : Callable) (args : List Value) → AreFurther cs cs' → IsFurther (Option Value) (call_body w cs b f args) (call_body roomy cs' b f args)
+  body-f : (cs cs' : Calls) (b : Body) (f : Callable) (args : List Value) → NamedBy b f.name → AreFurther cs cs' → IsFurther (Option Value) (call_body w cs b f args) (call_body roomy cs' b f args)
   unfolding call_body
-  body-f cs cs' (Library g) f args h = bind-f (take_room-f f.name) λ u. library-f g args
-  body-f cs cs' (Defined m d) f args h = bounded-f cs cs' f args h
+  body-f cs cs' (Library g) f args named h = answers w roomy room f.name (library_call g args) named (library-f g args)
+  body-f cs cs' (Defined m d) f args named h = bounded-f cs cs' f args h
 
-  call-f : (cs cs' : Calls) (f : Callable) (args : List Value) → AreFurther cs cs' → IsFurther (Option Value) (call w cs f args) (call roomy cs' f args)
+  call-f : (cs cs' : Calls) (f : Callable) (args : List Value) → IsNamed f → AreFurther cs cs' → IsFurther (Option Value) (call w cs f args) (call roomy cs' f args)
   unfolding call
-  call-f cs cs' f args h = body-f cs cs' f.body f args h
+  call-f cs cs' f args named h = body-f cs cs' f.body f args named h
 
   call_value-f : (e : Env) (cs cs' : Calls) (t : ℕ) (ty : CType) (p : Value) (args : List Value) → AreFurther cs cs'
       → IsFurther (Option Value) (call_value (under w e) cs t ty p args) (call_value (under roomy e) cs' t ty p args)
   unfolding call_value
-  call_value-f e cs cs' t ty p args h = bind-f (judge-r IsFurther cutting _ _) λ u. bind-f (need-r IsFurther cutting _) λ f. call-f cs cs' f args h
+  call_value-f e cs cs' t ty p args h =
+      bind-f (judge-r IsFurther cutting _ _) λ u. needed w roomy (callee_of w.program p) _ _ λ f is. call-f cs cs' f args (called_rightly w.program p f is) h
 
   -- ---- expressions
 
@@ -155,7 +150,8 @@ module _ (w : World) (frame_of : List ℕ → ℕ) (stack : ℕ) (room : (active
         bind-f (bind-f (place-f a cs cs' e h) λ p. advance-r IsFurther cutting _ p _) λ q. value_at-f e t ty q
     answer-f (Node t ty (Deref a)) cs cs' e h = bind-f (operand-f _ (answer-f a cs cs' e h)) λ p. value_at-f e t ty p
     answer-f (Node t ty (Call s args)) cs cs' e h =
-        bind-f (values-f args t cs cs' e h) λ xs. bind-f (need-r IsFurther cutting _) λ f. call-f cs cs' f xs h
+        bind-f (values-f args t cs cs' e h) λ xs. needed w roomy (function_named w.program (full_name e.home.name s)) _ _ λ f is.
+        call-f cs cs' f xs (named_rightly w.program (full_name e.home.name s) f is) h
     answer-f (Node t ty (CallValue a args)) cs cs' e h =
         bind-f (operand-f _ (answer-f a cs cs' e h)) λ p. bind-f (values-f args t cs cs' e h) λ xs.
         call_value-f e cs cs' t _ p xs h
@@ -209,7 +205,7 @@ module _ (w : World) (frame_of : List ℕ → ℕ) (stack : ℕ) (room : (active
       → ((at : Entry) (cs cs' : Calls) → AreFurther cs cs' → IsFurther Flow (run at cs) (run' at cs'))
       → IsFurther Flow (taking_up labels run at cs) (taking_up labels run' at cs')
   unfolding taking_up
-  taking_up-f labels run run' at [] [] h p = bind-f (p at [] [] h) λ f. caught-r IsFurther cutting labels f λ l. cutting.stops Flow Bound
+  taking_up-f labels run run' at [] [] h p = bind-f (p at [] [] h) λ f. caught-r IsFurther cutting labels f λ l. cutting.stops Flow Bound tt
   taking_up-f labels run run' at [] (c' ∷ cs') h p = absurd h
   taking_up-f labels run run' at (c ∷ cs) [] h p = absurd h
   taking_up-f labels run run' at (c ∷ cs) (c' ∷ cs') h p =
@@ -238,7 +234,7 @@ module _ (w : World) (frame_of : List ℕ → ℕ) (stack : ℕ) (room : (active
       → IsFurther Flow (loop one.ahead one.body one.behind cs) (loop other.ahead other.body other.behind cs')
   unfolding loop
   loop-f one other p [] [] h =
-      bind-f (p.test [] [] h) λ more. branch-f more (turn-f one other p Front [] [] h (cutting.stops Flow Bound)) (cutting.gives Flow Normal)
+      bind-f (p.test [] [] h) λ more. branch-f more (turn-f one other p Front [] [] h (cutting.stops Flow Bound tt)) (cutting.gives Flow Normal)
   loop-f one other p [] (c' ∷ cs') h = absurd h
   loop-f one other p (c ∷ cs) [] h = absurd h
   loop-f one other p (c ∷ cs) (c' ∷ cs') h =
@@ -249,7 +245,7 @@ module _ (w : World) (frame_of : List ℕ → ℕ) (stack : ℕ) (room : (active
       → IsFurther Flow (meet_loop one.ahead one.body one.behind at cs) (meet_loop other.ahead other.body other.behind at cs')
   unfolding meet_loop
   meet_loop-f one other p Front cs cs' h = loop-f one other p cs cs' h
-  meet_loop-f one other p (At_label l) [] [] h = turn-f one other p (At_label l) [] [] h (cutting.stops Flow Bound)
+  meet_loop-f one other p (At_label l) [] [] h = turn-f one other p (At_label l) [] [] h (cutting.stops Flow Bound tt)
   meet_loop-f one other p (At_label l) [] (c' ∷ cs') h = absurd h
   meet_loop-f one other p (At_label l) (c ∷ cs) [] h = absurd h
   meet_loop-f one other p (At_label l) (c ∷ cs) (c' ∷ cs') h =
@@ -303,6 +299,7 @@ module _ (w : World) (frame_of : List ℕ → ℕ) (stack : ℕ) (room : (active
     unfolding meaning items arms behind_arms
 
     meaning-f : (s : Statement) (at : Entry) (cs cs' : Calls) (e : Env) → AreFurther cs cs' → IsFurther Flow (meaning s at cs (under w e)) (meaning s at cs' (under roomy e))
+    meaning-f (Empty t) at cs cs' e h = cutting.gives Flow _
     meaning-f (Evaluate t a) at cs cs' e h = bind-f (answer-f a cs cs' e h) λ o. cutting.gives Flow _
     meaning-f (Block t first count initialisers list) at cs cs' e h =
         with_locals-f count first _ _ e λ inner. bind-f (initialise_all-f initialisers at cs cs' inner h) λ u.
@@ -343,8 +340,11 @@ module _ (w : World) (frame_of : List ℕ → ℕ) (stack : ℕ) (room : (active
     meaning-f (Label t labels body) at cs cs' e h =
         taking_up-f labels (λ at' ds. meaning body (behind_labels labels at') ds (under w e)) (λ at' ds. meaning body (behind_labels labels at') ds (under roomy e)) at cs cs' h λ at' ds ds' k.
         meaning-f body _ ds ds' e k
+    meaning-f (Goto t l) at cs cs' e h = cutting.gives Flow _
+    meaning-f (Break t) at cs cs' e h = cutting.gives Flow _
+    meaning-f (Continue t) at cs cs' e h = cutting.gives Flow _
+    meaning-f (Return t None) at cs cs' e h = cutting.gives Flow _
     meaning-f (Return t (Some a)) at cs cs' e h = bind-f (value-f a cs cs' e h) λ x. cutting.gives Flow _
-    meaning-f _ at cs cs' e h = cutting.gives Flow _
 
     items-f : (ss : Statements) (at : Entry) (cs cs' : Calls) (e : Env) → AreFurther cs cs' → IsFurther Flow (items ss at cs (under w e)) (items ss at cs' (under roomy e))
     items-f NoStatement at cs cs' e h = cutting.gives Flow _
@@ -380,7 +380,7 @@ module _ (w : World) (frame_of : List ℕ → ℕ) (stack : ℕ) (room : (active
       → IsFurther (Option Value) (run_body w cs name b xs) (run_body roomy cs' name b xs)
   unfolding run_body
   run_body-f cs cs' name (Defined home f) xs h =
-      bind-f (take_room-f name) λ u. cutting.durings (Option Value) name _ _ (with_locals-f f.params 0 _ _ (outermost w home f) λ e.
+      enters w roomy room name _ _ (with_locals-f f.params 0 _ _ (outermost w home f) λ e.
       bind-f (set_parameters-f _ 0 xs e) λ u. bind-f (meaning-f f.body Front cs cs' e h) λ flow. result_of-r IsFurther cutting flow)
   run_body-f cs cs' name (Library g) xs h = wrong-r IsFurther cutting (Option Value)
 
@@ -392,12 +392,32 @@ module _ (w : World) (frame_of : List ℕ → ℕ) (stack : ℕ) (room : (active
   pub run_main-f : (n : ℕ) → IsFurther (Unit {0}) (run_main w n) (run_main roomy n)
   unfolding run_main
   run_main-f n =
-      bind-f (need-r IsFurther cutting _) λ main. bind-f (call-f (calls w n) (calls roomy n) main [] (calls-f n)) λ result.
+      needed w roomy (function_named w.program main_name) _ _ λ main is.
+      bind-f (call-f (calls w n) (calls roomy n) main [] (named_rightly w.program main_name main is) (calls-f n)) λ result.
       finish-r IsFurther cutting main.body result
 
 pub roomier_notes : (w : World) (frame_of : List ℕ → ℕ) (stack : ℕ) (input : List ℕ) (n : ℕ)
     → ((active : List (List ℕ)) → HasRoom w active → HasRoom (with_stack frame_of stack w) active)
     → IsOlder (noted_within w input n) (noted_within (with_stack frame_of stack w) input n)
 roomier_notes w frame_of stack input n room =
+    let roomy = with_stack frame_of stack w in
     let s = start_state w.program input in
-    cut-older (run_main w n s) (run_main (with_stack frame_of stack w) n s) ((run_main-f w frame_of stack room n).1 s)
+    cut-older w roomy s (run_main w n s) (run_main roomy n s) ((run_main-f w frame_of stack room n).2 s)
+
+-- ---- where no function takes room
+
+abbrev roomless : World → World
+roomless w = with_stack (λ f. 0) 0 w
+
+depth-none : (w : World) (active : List (List ℕ)) → depth (roomless w) active ≡ 0
+depth-none w [] = refl
+depth-none w (name ∷ active) = omega (arith, depth-none w active)
+
+all-room : (w : World) (active : List (List ℕ)) → HasRoom (roomless w) active
+all-room w active = ap (λ (k : ℕ). nat_lt 0 k) (depth-none w active)
+
+pub next_call : (w : World) (input : List ℕ) (n : ℕ) (t : State) → LibraryTakesNone w → HasRoom w (start_name ∷ []) → run_main w n (start_state w.program input) ≡ Ends StackFull t
+    → (name : List ℕ) × IsOlder (Called name t.objects ∷ t.moments) (noted_within (roomless w) input n)
+next_call w input n t none fits is =
+    let s = start_state w.program input in
+    next-of w (roomless w) s (run_main w n s) (run_main (roomless w) n s) t none fits (all-room w) is ((run_main-f w (λ f. 0) 0 (λ active h. all-room w active) n).2 s)

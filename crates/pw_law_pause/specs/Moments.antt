@@ -1,6 +1,6 @@
 -- What runs of one program note, with different bounds and with different room on the stack.
 use Rattle.std.specs.Prelude.{ℕ, ◌≡◌, false, nat_lt, List, ◌++◌}
-use Rattle.pw_cmean.specs.Worlds.{Program, World, depth}
+use Rattle.pw_cmean.specs.Worlds.{World, depth}
 use Rattle.pw_cmean.specs.Acts.{Moment}
 use Rattle.pw_cmean.specs.SourceRun.{run_main, start_state}
 use Rattle.pw_cmean.specs.Lasting.{state_behind}

@@ -71,11 +71,11 @@ no_depth : (p : Program) (stack : ℕ) (active : List (List ℕ)) → depth (wor
 no_depth p stack [] = refl
 no_depth p stack (f ∷ active) = ap (λ (n : ℕ). 0 + n) (no_depth p stack active)
 
-never_full : (stack n : ℕ) → n ≡ 0 → nat_lt stack n ≡ false
-never_full stack n none = by (nat_lt stack n) refl
+pub never_full : (stack n : ℕ) → n ≤ stack → nat_lt stack n ≡ false
+never_full stack n fits = by (nat_lt stack n) refl
   where
     by : (b : Bool) → nat_lt stack n ≡ b → b ≡ false
-    by true e = let lt = ltb-true stack n e in absurd (omega (arith, lt, none))
+    by true e = let lt = ltb-true stack n e in absurd (omega (arith, lt, fits))
     by false e = refl
 
 abbrev pub Longer : Type 0
@@ -88,7 +88,7 @@ Roomier = (world : World) (frame_of : List ℕ → ℕ) (stack : ℕ) (input : L
 -- what a run notes it notes first where no function takes room on the stack
 pub roomless_later : Roomier → (p : Program) (frame_of : List ℕ → ℕ) (stack : ℕ) (input : List ℕ) (n : ℕ) → IsOlder (noted_within (world_of p frame_of stack) input n) (noted_within (world_of p (λ f. 0) 0) input n)
 roomless_later roomier p frame_of stack input n =
-    roomier (world_of p frame_of stack) (λ f. 0) 0 input n (λ active some. never_full 0 (depth (world_of p (λ f. 0) 0) active) (no_depth p 0 active))
+    roomier (world_of p frame_of stack) (λ f. 0) 0 input n (λ active some. let none = no_depth p 0 active in never_full 0 (depth (world_of p (λ f. 0) 0) active) (omega (arith, none)))
 
 pub pause_is : Longer → Roomier → (p : Program) (frame_of : List ℕ → ℕ) (stack : ℕ) (input : List ℕ) (n k : ℕ) (log : List Moment) (f g : List ℕ) (things others : List Thing)
     → HasNoted (source_stages p frame_of stack input n) log → IsSourceCall log k f things → IsPause p input k g others → (f ≡ g) × (things ≡ others)

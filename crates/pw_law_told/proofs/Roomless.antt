@@ -46,9 +46,9 @@ use Rattle.pw_law_where.specs.Counting.{AreEntriesOf}
 use Rattle.pw_law_pause.specs.Moments.{IsOlder, noted_within}
 use Rattle.pw_law_calls.specs.Calls.{HasCalls, HasNoted, IsCallOfSource, IsSourceCall, calls_among}
 use Rattle.pw_law_refused.specs.Refused.{HasShown, IsRefused, IsRefusedAlike, NotesRefused, behind, log_with_call}
-use Rattle.pw_law_refused.proofs.Logs.{alike_lengths, alike_weaker, has_latest, has_part, shows_alike, stops_alike}
-use Rattle.pw_law_told.specs.Told.{IsPause, world_of}
-use Rattle.pw_law_told.proofs.Pauses.{Longer, Roomier, call_later, longer_counts, one_call, pause_is, roomless_later}
+use Rattle.pw_law_refused.proofs.Logs.{alike_lengths, has_latest, has_part, shows_alike, stops_alike}
+use Rattle.pw_law_told.specs.Told.{ComesToCall, IsPause, world_of}
+use Rattle.pw_law_told.proofs.Pauses.{Longer, Roomier, call_later, longer_counts, noted_is, one_call, pause_is, roomless_later}
 
 -- ---- logs of the program
 
@@ -175,13 +175,6 @@ goes_down through q named log moments webs places v machine a b c d met =
     (constant_meets (EventInWords q named) output read places v.log (constant output read v.log) refl d)
     (lately_meets v machine met)
 
--- what is kept where no function takes room is kept
-roomless_kept : (q : Program) (m : Moment) (n : flow.Moment) → MomentKept (roomless q) m n → MomentKept q m n
-roomless_kept q (Called f things) (flow.Called g others) h = (h.0, record { place = h.1.place; globals = h.1.globals })
-roomless_kept q (Called f things) (flow.Returned g others) h = absurd h
-roomless_kept q (Returned f things) (flow.Called g others) h = absurd h
-roomless_kept q (Returned f things) (flow.Returned g others) h = (h.0, record { place = h.1.place; globals = h.1.globals })
-
 -- a call of the flow graphs is one of the program
 kept_called : (q : Program) (m : Moment) (f : List ℕ) (things : List Thing) → MomentKept q m (flow.Called f things) → (own : List Thing) × (m ≡ Called f own)
 kept_called q (Called g own) f things h = (own, ap (λ (n : List ℕ). Called n own) (sym h.0))
@@ -192,6 +185,12 @@ unfolding line_run
 line_goes q w scratch input n l is = ap lines.staged is
 
 -- ---- the laws below
+
+-- a call that is refused for want of stack comes next where no function takes room
+abbrev pub NextIsNoted : source.World → List ℕ → Type 0
+NextIsNoted world input =
+    (n : ℕ) (t : acts.State) → run_main world n (meaning.start_state world.program input) ≡ Ends acts.StackFull t
+    → (name : List ℕ) × IsOlder (Called name t.objects ∷ t.moments) (noted_within (world_of world.program (λ f. 0) 0) input n)
 
 abbrev pub StagesHaveTheCalls : Type 0
 StagesHaveTheCalls =
@@ -228,6 +227,9 @@ module _ (laws : LawsBelow) (p : source.Program) (q : Program) (d : List (List �
   abbrev stages : ℕ → Stage Moment
   stages n = source_stages p (frame_in (image_of objects q.stack)) q.stack input n
 
+  abbrev own_world : source.World
+  own_world = world_of p (frame_in (image_of objects q.stack)) q.stack
+
   abbrev free : source.World
   free = world_of p (λ f. 0) 0
 
@@ -236,6 +238,46 @@ module _ (laws : LawsBelow) (p : source.Program) (q : Program) (d : List (List �
 
   abbrev core : Core
   core = image_start (image_of objects q.stack).memory
+
+  -- what the source has at the machine's k-th call
+  source_has : (entries : List ℕ) (k step : ℕ) (s : State) → AreEntriesOf entries map → IsCall entries (start_state core input) k step s → Refines (InMachine q map.named) stages (calls_of (traced_run map core input))
+      → IsDefined (source_runs p (frame_in (image_of objects q.stack)) q.stack input)
+      → HasOwn (suc step) k (run_main own_world (suc step) (meaning.start_state p input)) ⊎ IsFull k (run_main own_world (suc step) (meaning.start_state p input))
+  unfolding source_stages source_run
+  source_has entries k step s are reached holds defined =
+      let n = suc step in
+      by_outcome step k (run_main own_world n (meaning.start_state p input)) (defined n) (laws.stages q entries map core input stages k step n s are holds reached)
+
+  own_noted : (n k : ℕ) (h : HasOwn n k (run_main own_world n (meaning.start_state p input))) → HasNoted (stages n) h.log
+  unfolding source_stages
+  own_noted n k h = h.noted
+
+  full_over : (n k : ℕ) (h : IsFull k (run_main own_world n (meaning.start_state p input))) → stages n ≡ Over StackFull (view_of 0 h.state)
+  unfolding source_stages
+  full_over n k h = ap (λ (x : Outcome (Unit {0})). staged n x) h.is
+
+  -- ---- the program comes to it
+
+  pub comes_to : (entries : List ℕ) (k step : ℕ) (s : State) → AreEntriesOf entries map → IsCall entries (start_state core input) k step s → Refines (InMachine q map.named) stages (calls_of (traced_run map core input))
+      → IsDefined (source_runs p (frame_in (image_of objects q.stack)) q.stack input) → NextIsNoted own_world input → ComesToCall p input k
+  comes_to entries k step s are reached holds defined next =
+      let n = suc step in
+      elim (source_has entries k step s are reached holds defined) [
+        | inl own ↦ let before = reached.before in
+            let c = has_call own.log k (omega (arith, before)) own.most in
+            let noted = noted_is p (frame_in (image_of objects q.stack)) q.stack input n own.log (own_noted n k own) in
+            let there : IsSourceCall (noted_within own_world input n) k c.function c.things = subst (λ (l : List Moment). IsSourceCall l k c.function c.things) (sym noted) c.call in
+            record {
+              function = c.function;
+              things = c.things;
+              pause = record { bound = n; call = call_later (noted_within own_world input n) (noted_within free input n) k c.function c.things (roomless_later laws.roomier p (frame_in (image_of objects q.stack)) q.stack input n) there };
+            }
+        | inr full ↦ let called = next n full.state full.is in record {
+          function = called.0;
+          things = full.state.objects;
+          pause = record { bound = n; call = record { later = called.1.0; before = full.state.moments; log_is = called.1.1; count = full.count } };
+        }
+      ]
 
   module _ (entries : List ℕ) (k step : ℕ) (s : State) (are : AreEntriesOf entries map) (reached : IsCall entries (start_state core input) k step s) (f : List ℕ) (things : List Thing) (pause : IsPause p input k f things) where
     abbrev IsTheCall : List ℕ → List Thing → Type 0
@@ -254,7 +296,7 @@ module _ (laws : LawsBelow) (p : source.Program) (q : Program) (d : List (List �
 
     -- for want of stack
     module _ (given : IsGiven q d functions layers.linking.addresses input) (direction : DirectionKeeps (roomless q) d input) (places : PlacesKeep (roomless q) d functions input)
-        (progress : Refines (MomentKept (roomless q)) (source_progress p (λ f. 0) 0 input) (flow_run (roomless q) input)) where
+        (progress : Refines (MomentKept q) (source_progress p (λ f. 0) 0 input) (flow_run (roomless q) input)) where
       -- the program's call, and the like of it in the run of flow graphs and in the placed run
       record IsRefusedThere : Type 0 where
         count : ℕ
@@ -296,10 +338,10 @@ module _ (laws : LawsBelow) (p : source.Program) (q : Program) (d : List (List �
       both_met : (n : ℕ) (t : acts.State) → stages n ≡ Over StackFull (view_of 0 t) → length t.moments < length (noted_within free input pause.bound) → BothMet t.moments
       both_met n t over more =
           let shown = has_progress p input pause.bound in
-          let free_graphs = shows_alike (MomentKept (roomless q)) (source_progress p (λ f. 0) 0 input pause.bound) shown.view (flow_run (roomless q) input) shown.shown (progress pause.bound) in
+          let free_graphs = shows_alike (MomentKept q) (source_progress p (λ f. 0) 0 input pause.bound) shown.view (flow_run (roomless q) input) shown.shown (progress pause.bound) in
           let graphs = stops_alike (MomentKept q) (stages n) (view_of 0 t) (flow_run q input) over (layers.lowering n) in
           let a = alike_lengths (MomentKept q) t.moments graphs.view.log graphs.alike in
-          let b = alike_lengths (MomentKept (roomless q)) shown.view.log free_graphs.view.log free_graphs.alike in
+          let b = alike_lengths (MomentKept q) shown.view.log free_graphs.view.log free_graphs.alike in
           let c : length shown.view.log ≡ length (noted_within free input pause.bound) = ap (λ (l : List Moment). length l) shown.is in
           let further : length graphs.view.log < length free_graphs.view.log = omega (arith, a, b, c, more) in
           record {
@@ -307,7 +349,7 @@ module _ (laws : LawsBelow) (p : source.Program) (q : Program) (d : List (List �
             long = a;
             log = free_graphs.view.log;
             refused = laws.alike q d functions layers.linking.addresses input graphs.at free_graphs.at graphs.view free_graphs.view given layers.direction layers.places direction places graphs.is free_graphs.shown further;
-            alike = subst (λ (l : List Moment). AreAlike (MomentKept q) l free_graphs.view.log) shown.is (alike_weaker (MomentKept (roomless q)) (MomentKept q) (roomless_kept q) shown.view.log free_graphs.view.log free_graphs.alike);
+            alike = subst (λ (l : List Moment). AreAlike (MomentKept q) l free_graphs.view.log) shown.is free_graphs.alike;
           }
 
       -- the call among what the program has noted
@@ -379,12 +421,10 @@ module _ (laws : LawsBelow) (p : source.Program) (q : Program) (d : List (List �
           (laws.calls q entries map core input (constant met.view.output met.view.read log) k step 0 s log name h.own are there reached refl (record { later = []; before = h.before; log_is = refl; count = h.number }))
 
       pub the_call : Refines (InMachine q map.named) stages (calls_of (traced_run map core input)) → IsDefined (source_runs p (frame_in (image_of objects q.stack)) q.stack input) → IsTheCall f things
-      unfolding source_stages source_run
       the_call holds defined =
           let n = suc step in
-          let o = run_main (world_of p (frame_in (image_of objects q.stack)) q.stack) n (meaning.start_state p input) in
-          elim (by_outcome step k o (defined n) (laws.stages q entries map core input stages k step n s are holds reached)) [
-            | inl own ↦ own_call n own.log holds own.noted own.most
-            | inr full ↦ refused_call (refused_there n full.state (ap (λ (x : Outcome (Unit {0})). staged n x) full.is)
+          elim (source_has entries k step s are reached holds defined) [
+            | inl own ↦ own_call n own.log holds (own_noted n k own) own.most
+            | inr full ↦ refused_call (refused_there n full.state (full_over n k full)
                 (subst (λ (l : List Moment). IsOlder l (noted_within free input n)) (ap (λ (x : Outcome (Unit {0})). (state_behind x).moments) full.is) (roomless_later laws.roomier p (frame_in (image_of objects q.stack)) q.stack input n)) full.count)
           ]

@@ -38,6 +38,12 @@ pub record IsPause (p : source.Program) (input : List ℕ) (k : ℕ) (f : List �
   pub bound : ℕ
   pub call : IsSourceCall (noted_within (world_of p (λ f. 0) 0) input bound) k f things
 
+-- it comes to its k-th call, whichever this is
+pub record ComesToCall (p : source.Program) (input : List ℕ) (k : ℕ) : Type 0 where
+  pub function : List ℕ
+  pub things : List Thing
+  pub pause : IsPause p input k function things
+
 -- These functions are active in a state of the machine, one behind another as a walk meets them, and the frame of each stands in
 -- the memory.
 pub record StandAt (looks : Seen) (core : Core) (active : List Active) : Type 0 where

@@ -32,7 +32,7 @@ ghost use Rattle.pw_debug_frames.specs.Frames.{frame_info};
 ghost use Rattle.pw_where.specs.Calls.{IsCall};
 ghost use Rattle.pw_where.specs.Looks.{entries_in, start_over};
 ghost use Rattle.pw_law_calls.specs.Calls.{HasNoted, IsCallOfSource, IsSmall, IsSourceCall};
-ghost use Rattle.pw_law_told.specs.Told.{IsPause, IsTold, StandAt};
+ghost use Rattle.pw_law_told.specs.Told.{ComesToCall, IsPause, IsTold, StandAt};
 
 use pw_law_callers::laws::{
     active_frames_stand, active_functions_are_callers, only_the_first_is_start,
@@ -54,7 +54,7 @@ use pw_law_linked::{
     given_programs_have_lawful_addresses, linked_programs_are_framed, linked_programs_are_linked,
     linking_keeps_runs,
 };
-use pw_law_pause::laws::{longer_runs_note_more, roomier_runs_note_more};
+use pw_law_pause::laws::{longer_runs_note_more, refused_calls_come_next, roomier_runs_note_more};
 use pw_law_refused::laws::{graphs_are_refused_alike, refused_calls_are_noted};
 use pw_law_room::laws::active_calls_have_room;
 use pw_law_selection::selection_keeps_runs;
@@ -104,6 +104,32 @@ pub fn active_functions_stand()
     selection_keeps_runs();
     placement_keeps_runs();
     noted_calls_are_its_own();
+}
+
+/// Where a program is defined, and the debugger counts a k-th call in the run of its image, the program comes to a k-th call where no
+/// function takes room on the stack.
+pub fn programs_come_to_their_calls()
+    ensures { (p : source.Program) (q : Program) (d : List (List ℕ × Directives)) (functions : List Located) (objects : List Object) (input : List ℕ) (k step : ℕ) (s : State) →
+        IsBuilt p q d functions objects → AreBytes input → DirectionKeeps q d input → PlacesKeep q d functions input →
+        IsDefined (source_runs p (frame_in (image_of objects q.stack)) q.stack input) →
+        IsCall (entries_in (image_of objects q.stack) objects) (start_over (image_of objects q.stack) input) k step s → ComesToCall p input k }
+{
+    calls_are_those_of_the_source();
+    stages_have_the_calls();
+    linked_programs_have_their_entries();
+    maps_have_frames();
+    places_fit_their_rooms();
+    refinement_goes_through();
+    layers_hold();
+    sound_directives_guard();
+    linking_keeps_runs();
+    selection_keeps_runs();
+    placement_keeps_runs();
+    longer_runs_note_more();
+    roomier_runs_note_more();
+    refused_calls_come_next();
+    graphs_are_refused_alike();
+    refused_calls_are_noted();
 }
 
 /// Where a program is defined, the debugger's k-th call in the run of its image is the program's where no function takes room on the

@@ -18,7 +18,7 @@ use Rattle.pw_where.specs.declared.shown.Shown.{Shown}
 use Rattle.pw_where.specs.Shown.{call_line, value_line}
 use Rattle.pw_where.specs.Looks.{AreShown, ShowsAt}
 use Rattle.pw_debug.specs.declared.info.FrameInfo.{FrameInfo}
-pub use Rattle.pw_law_told.specs.Told.{IsPause}
+pub use Rattle.pw_law_told.specs.Told.{ComesToCall, IsPause}
 
 -- ---- the program
 
@@ -69,9 +69,10 @@ pub record TellTrue (p : Program) (image : Image) (objects : List Object) (k : �
   pub are : lines ≡ call_line k f ++ lines_of values
   pub say : AllByRecursion (SaysTrue p things) values
 
--- What is shown at the k-th call of an image's run, over these frames, is the truth: lines are true of the program's k-th call, if it
--- comes to one, whether the image's stack has room for this or not; and no walk is lost.
+-- What is shown at the k-th call of an image's run, over these frames, is the truth: where lines are shown, the program comes to its
+-- k-th call, whether the image's stack has room for this or not, and they are true of it; and no walk is lost.
 pub record ShowsTruth (p : Program) (image : Image) (objects : List Object) (frames : List FrameInfo) (k budget : ℕ) (input : List ℕ) : Type 0 where
+  pub comes : (lines : List ℕ) (rest : Option (List ℕ)) → ShowsAt image objects frames k budget input (Ok lines) rest → ComesToCall p input k
   pub lines : (lines : List ℕ) (rest : Option (List ℕ)) (f : List ℕ) (things : List Thing) → ShowsAt image objects frames k budget input (Ok lines) rest →
       IsPause p input k f things → TellTrue p image objects k lines f things
   pub walks : (address : ℕ) (rest : Option (List ℕ)) → ¬ ShowsAt image objects frames k budget input (Err address) rest

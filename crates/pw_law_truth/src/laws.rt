@@ -19,12 +19,13 @@ ghost use Rattle.pw_law_truth.specs.Truth.{ShowsTruth, definitions_of, lowered_d
 use pw_law_bytes::laws::globals_have_their_bytes;
 use pw_law_code::code::{linked_addresses_are_lawful, maps_name_the_program};
 use pw_law_told::laws::{
-    calls_are_those_of_the_program, values_are_those_of_the_program, walks_are_not_lost,
+    calls_are_those_of_the_program, programs_come_to_their_calls, values_are_those_of_the_program,
+    walks_are_not_lost,
 };
 
 /// What the debugger shows at the k-th call of a built program's image is the truth, if the program is defined on the input. Where
-/// it comes to a k-th call, the line of the call names its function, and each line of a global whose object has a value of an
-/// integer type then says that value, also of a call for which the stack has no room. No walk over the frames is lost.
+/// lines are shown it comes to its k-th call, the line of the call names its function, and each line of a global whose object has a
+/// value of an integer type then says that value, also of a call for which the stack has no room. No walk over the frames is lost.
 pub fn lines_say_true()
     ensures { (p : source.Program) (q : Program) (d : List (List ℕ × Directives)) (functions : List Located) (objects : List Object) (input : List ℕ) (k budget : ℕ) →
         IsBuilt p q d functions objects → AllByRecursion IsLocated functions → AreBytes input → DirectionKeeps q d input → PlacesKeep q d functions input →
@@ -36,6 +37,7 @@ pub fn lines_say_true()
     maps_name_the_program();
     globals_have_their_bytes();
     calls_are_those_of_the_program();
+    programs_come_to_their_calls();
     values_are_those_of_the_program();
     walks_are_not_lost();
 }

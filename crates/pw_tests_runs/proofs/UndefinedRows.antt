@@ -1,6 +1,6 @@
 -- Bump and main in C where bump adds 2^31 - 1, so that its second call meets an undefined operation at once. Within no bound does
 -- C's meaning say what comes behind that call. The flow graphs come to it too, with the same value of n.
-use Rattle.std.specs.Prelude.{ℕ, List, [], ◌∷◌, map, codes}
+use Rattle.std.specs.Prelude.{List, [], ◌∷◌, map, codes}
 use Rattle.std.proofs.Common.{arith, true, refl}
 use Rattle.pw_value.specs.declared.value.Byte.{Byte}
 use Rattle.pw_value.specs.declared.value.Byte.TheVariants as B
@@ -25,7 +25,7 @@ use Rattle.pw_run_languages.specs.Programs as flows
 use Rattle.pw_run_languages.specs.FlowRun as flow
 use Rattle.pw_run_languages.specs.FlowRun.{flow_run}
 use Rattle.pw_law_source.specs.Source.{source_progress}
-use Rattle.pw_law_source.specs.Lowering.{ByteKept, SameGlobals, MomentKept}
+use Rattle.pw_law_source.specs.Lowering.{SameGlobals, MomentKept}
 use Rattle.pw_tests_runs.proofs.Programs.{bump, bump_main, start, global}
 use Rattle.pw_tests_runs.proofs.SourceRows.{number, of_n, sum, tree, module_tree, bump_tree, main_tree}
 

@@ -33,6 +33,7 @@ returns c = λ p q d functions objects input k budget built located bytes direct
     λ shown are. all_ordered (IsKnown q image) (shown_of (globals_of q) image.globals) shown (subst (λ (gs : List FlowGlobal). IsPermutation (shown_of gs image.globals) shown) built.made.globals are.same) known in
     let lawful = c.linked_addresses_are_lawful.ensures q d functions objects (λ g n. 0) program built.names built.serve built.made built.fits (λ g n. omega arith) in
     record {
+      comes = λ lines rest shows. c.programs_come_to_their_calls.ensures p q d functions objects input k shows.step shows.state built bytes direction places defined shows.call;
       lines = λ lines rest f things shows pause.
           let have = bytes_at_pause c.globals_have_their_bytes.ensures p q input k f things program (built.implements.progress input bytes) pause in
           let core = shows.state.core in
