@@ -46,7 +46,7 @@ use Rattle.pw_law_where.specs.Counting.{AreEntriesOf}
 use Rattle.pw_law_pause.specs.Moments.{IsOlder, noted_within}
 use Rattle.pw_law_calls.specs.Calls.{HasCalls, HasNoted, IsCallOfSource, IsSourceCall, calls_among}
 use Rattle.pw_law_refused.specs.Refused.{HasShown, IsRefused, IsRefusedAlike, NotesRefused, behind, log_with_call}
-use Rattle.pw_law_refused.proofs.Logs.{alike_lengths, alike_weaker, has_latest, has_part, shows_alike, stops_alike}
+use Rattle.pw_law_refused.proofs.Logs.{alike_lengths, has_latest, has_part, shows_alike, stops_alike}
 use Rattle.pw_law_told.specs.Told.{ComesToCall, IsPause, world_of}
 use Rattle.pw_law_told.proofs.Pauses.{Longer, Roomier, call_later, longer_counts, noted_is, one_call, pause_is, roomless_later}
 
@@ -175,13 +175,6 @@ goes_down through q named log moments webs places v machine a b c d met =
     (constant_meets (EventInWords q named) output read places v.log (constant output read v.log) refl d)
     (lately_meets v machine met)
 
--- what is kept where no function takes room is kept
-roomless_kept : (q : Program) (m : Moment) (n : flow.Moment) → MomentKept (roomless q) m n → MomentKept q m n
-roomless_kept q (Called f things) (flow.Called g others) h = (h.0, record { place = h.1.place; globals = h.1.globals })
-roomless_kept q (Called f things) (flow.Returned g others) h = absurd h
-roomless_kept q (Returned f things) (flow.Called g others) h = absurd h
-roomless_kept q (Returned f things) (flow.Returned g others) h = (h.0, record { place = h.1.place; globals = h.1.globals })
-
 -- a call of the flow graphs is one of the program
 kept_called : (q : Program) (m : Moment) (f : List ℕ) (things : List Thing) → MomentKept q m (flow.Called f things) → (own : List Thing) × (m ≡ Called f own)
 kept_called q (Called g own) f things h = (own, ap (λ (n : List ℕ). Called n own) (sym h.0))
@@ -303,7 +296,7 @@ module _ (laws : LawsBelow) (p : source.Program) (q : Program) (d : List (List �
 
     -- for want of stack
     module _ (given : IsGiven q d functions layers.linking.addresses input) (direction : DirectionKeeps (roomless q) d input) (places : PlacesKeep (roomless q) d functions input)
-        (progress : Refines (MomentKept (roomless q)) (source_progress p (λ f. 0) 0 input) (flow_run (roomless q) input)) where
+        (progress : Refines (MomentKept q) (source_progress p (λ f. 0) 0 input) (flow_run (roomless q) input)) where
       -- the program's call, and the like of it in the run of flow graphs and in the placed run
       record IsRefusedThere : Type 0 where
         count : ℕ
@@ -345,10 +338,10 @@ module _ (laws : LawsBelow) (p : source.Program) (q : Program) (d : List (List �
       both_met : (n : ℕ) (t : acts.State) → stages n ≡ Over StackFull (view_of 0 t) → length t.moments < length (noted_within free input pause.bound) → BothMet t.moments
       both_met n t over more =
           let shown = has_progress p input pause.bound in
-          let free_graphs = shows_alike (MomentKept (roomless q)) (source_progress p (λ f. 0) 0 input pause.bound) shown.view (flow_run (roomless q) input) shown.shown (progress pause.bound) in
+          let free_graphs = shows_alike (MomentKept q) (source_progress p (λ f. 0) 0 input pause.bound) shown.view (flow_run (roomless q) input) shown.shown (progress pause.bound) in
           let graphs = stops_alike (MomentKept q) (stages n) (view_of 0 t) (flow_run q input) over (layers.lowering n) in
           let a = alike_lengths (MomentKept q) t.moments graphs.view.log graphs.alike in
-          let b = alike_lengths (MomentKept (roomless q)) shown.view.log free_graphs.view.log free_graphs.alike in
+          let b = alike_lengths (MomentKept q) shown.view.log free_graphs.view.log free_graphs.alike in
           let c : length shown.view.log ≡ length (noted_within free input pause.bound) = ap (λ (l : List Moment). length l) shown.is in
           let further : length graphs.view.log < length free_graphs.view.log = omega (arith, a, b, c, more) in
           record {
@@ -356,7 +349,7 @@ module _ (laws : LawsBelow) (p : source.Program) (q : Program) (d : List (List �
             long = a;
             log = free_graphs.view.log;
             refused = laws.alike q d functions layers.linking.addresses input graphs.at free_graphs.at graphs.view free_graphs.view given layers.direction layers.places direction places graphs.is free_graphs.shown further;
-            alike = subst (λ (l : List Moment). AreAlike (MomentKept q) l free_graphs.view.log) shown.is (alike_weaker (MomentKept (roomless q)) (MomentKept q) (roomless_kept q) shown.view.log free_graphs.view.log free_graphs.alike);
+            alike = subst (λ (l : List Moment). AreAlike (MomentKept q) l free_graphs.view.log) shown.is free_graphs.alike;
           }
 
       -- the call among what the program has noted
