@@ -35,21 +35,12 @@ module _ (p : Program) where
   write_knows (Some r) a o h = tt
 
   op_knows : (webs : List (Web × Role)) (o : Op) → NamesRightly p o → KnowsOp Anything (IsFunctionName p) (directed_op webs o)
-  op_knows webs (op.Const t n) h = tt
-  op_knows webs (op.Copy t a) h = tt
-  op_knows webs (op.Un k t a) h = tt
-  op_knows webs (op.Bin k t a b) h = tt
-  op_knows webs (op.Ext k t a) h = tt
   op_knows webs (op.AddrGlobal t x n) h = (tt, tt)
-  op_knows webs (op.AddrSlot t s) h = tt
   op_knows webs (op.AddrFn t f) h = (tt, tt)
   op_knows webs (op.LoadG t x k) h = read_knows (register_of webs x) t (op.LoadG t x k) (tt, tt)
   op_knows webs (op.StoreG x a k) h = write_knows (register_of webs x) a (op.StoreG x a k) (tt, tt)
-  op_knows webs (op.Load k t a) h = tt
-  op_knows webs (op.Store k a b) h = tt
-  op_knows webs (op.Move a b size unit) h = tt
   op_knows webs (op.Call t f args) h = h
-  op_knows webs (op.CallInd t a shape args) h = tt
+  op_knows webs _ h = tt
 
   ops_know : (webs : List (Web × Role)) (ops : List Op) → ((o : Op) → Contains ops o → NamesRightly p o) → AllByRecursion (KnowsOp Anything (IsFunctionName p)) (map (directed_op webs) ops)
   ops_know webs [] h = tt

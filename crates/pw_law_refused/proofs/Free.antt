@@ -23,7 +23,8 @@ use Rattle.pw_run_languages.specs.Programs.{Program, Library, GetChar, PutChar, 
 use Rattle.pw_run_languages.specs.Commands.{Command, Give, Combine, Look, Poke, Copied, GetGlobal, PutGlobal, Enter, Fail, command}
 use Rattle.pw_run_languages.specs.PlacedRun.{PlacedProgram, Frame, Machine, Step, On, Stopped, Astray, and_then, begins, calls_library, changes, counted, depth, does, ends, enters_webs, entered, entered_webs, exceeds, first_block, function_named, gives, globals_now, is_reserved, kept, leaves_webs, name_of, noted, obeys, start, step, steps, value_in, with_parameters}
 use Rattle.pw_run_languages.specs.Direction.{with_functions}
-use Rattle.pw_law_selection.proofs.Reaching.{value_same, command_same}
+use Rattle.pw_law_operations.proofs.Asking.{commands_rest_on_uses}
+use Rattle.pw_law_selection.proofs.Reaching.{value_same}
 use Rattle.pw_law_room.proofs.Parts.{begun_at, calls_by, next_by, reads_by, result_by, returns_by, starts_at_by, starts_by}
 use Rattle.pw_law_refused.specs.Refused.{IsRefused, behind, with_room}
 use Rattle.pw_law_refused.proofs.Stages.{steps_last}
@@ -108,21 +109,8 @@ module _ (p : Program) (functions : List Located) where
 
   commands_same : (base : ℕ) (o : Op) (value : ℕ → Value) → command p base o value ≡ command (with_room p) base o value
   unfolding command
-  commands_same base (op.Const t n) value = refl
-  commands_same base (op.Copy t a) value = refl
-  commands_same base (op.Un k t a) value = refl
-  commands_same base (op.Bin k t a b) value = refl
-  commands_same base (op.Ext k t a) value = refl
-  commands_same base (op.AddrGlobal t g n) value = refl
-  commands_same base (op.AddrSlot t s) value = refl
-  commands_same base (op.AddrFn t f) value = refl
-  commands_same base (op.LoadG t g k) value = refl
-  commands_same base (op.StoreG g a k) value = refl
-  commands_same base (op.Load k t a) value = refl
-  commands_same base (op.Store k a b) value = refl
-  commands_same base (op.Move a b size unit) value = refl
   commands_same base (op.Call t f args) value = refl
-  commands_same base (op.CallInd t a shape args) value = refl
+  commands_same base _ value = refl
 
   -- ---- a step that goes on
 
@@ -210,7 +198,7 @@ module _ (p : Program) (functions : List Located) where
       let args = map (value_in m.frame m.registers) r.from in
       let commanded : command (with_room p) next.frame.base r.op (value_in next.frame next.registers) ≡ Enter r.result r.name args =
       sym (commands_same m.frame.base r.op (value_in next.frame next.registers))
-      ∙ (command_same p m.frame.base r.op (value_in next.frame next.registers) (value_in m.frame m.registers) r.calls (value_same m.frame r.ops m.registers) ∙ r.enters) in
+      ∙ (commands_rest_on_uses p m.frame.base r.op (value_in next.frame next.registers) (value_in m.frame m.registers) (λ t used. value_same m.frame r.ops m.registers t) ∙ r.enters) in
       ap (λ (ops : List WebOp). next_by free m ops) r.next
       ∙ (ap (λ (c : Command). obeys free c next) commanded
       ∙ (ap (λ (g : Option Library). calls_by free r.result r.name args next g (function_named free r.name)) r.of_module

@@ -22,10 +22,11 @@ use Rattle.pw_run_languages.specs.Addresses.{Addresses}
 use Rattle.pw_run_languages.specs.Commands.{Command, Fail, command}
 use Rattle.pw_run_languages.specs.PlacedRun.{PlacedProgram, Machine, Step, On, Stopped, Astray, and_then, begins, calls_library, counted, depth, does, entered, entered_webs, enters_webs, exceeds, first_block, function_named, globals_now, kept, name_of, noted, obeys, step, value_in, with_parameters}
 use Rattle.pw_run_languages.specs.Direction.{with_functions}
+use Rattle.pw_law_operations.proofs.Asking.{commands_rest_on_uses}
 use Rattle.pw_law_select_known.specs.Laws.{IsOfProgram, OperationsNeverStop, WebsNeverStop, EndsNeverStop}
 use Rattle.pw_law_selection.specs.Following.{IsGiven}
 use Rattle.pw_law_selection.proofs.Given.{functions_fine, op_lawful}
-use Rattle.pw_law_selection.proofs.Reaching.{value_same, command_same, Enters, call_enters, webs_go}
+use Rattle.pw_law_selection.proofs.Reaching.{value_same, Enters, call_enters, webs_go}
 use Rattle.pw_law_room.specs.Room.{HadRoom, names_active}
 use Rattle.pw_law_room.proofs.Parts.{calls_by, next_by, reads_by}
 use Rattle.pw_law_room.proofs.Running.{depth_is}
@@ -157,7 +158,7 @@ module _ (p : Program) (functions : List Located) (u : Machine) where
         let valid = op_lawful p d functions m.frame.function fine m.frame.block (Flow o) ops m.frame.end inside in
         let next = behind ops m in
         let same : command p m.frame.base o (value_in next.frame next.registers) ≡ command p m.frame.base o (value_in m.frame m.registers) =
-        command_same p m.frame.base o (value_in next.frame next.registers) (value_in m.frame m.registers) called (value_same m.frame ops m.registers) in
+        commands_rest_on_uses p m.frame.base o (value_in next.frame next.registers) (value_in m.frame m.registers) (λ t used. value_same m.frame ops m.registers t) in
         by_command webs m none named had o ops is called
         (call_enters p m.frame.base m.frame.function.body.temps (length m.frame.function.body.slots) o (value_in m.frame m.registers) called valid)
         (subst (λ (c : Command). obeys full c next ≡ Stopped StackFull u) same stops)

@@ -62,19 +62,7 @@ module _ (p : Program) where
   directed_right : (webs : List (Web × Role)) (o : Op) → NamesRightly p o → NamesAreRight p (directed_op webs o)
   directed_right webs (op.LoadG t g k) h = read_right (register_of webs g) t (op.LoadG t g k) h
   directed_right webs (op.StoreG g a k) h = write_right (register_of webs g) a (op.StoreG g a k) h
-  directed_right webs (op.Const t n) h = h
-  directed_right webs (op.Copy t a) h = h
-  directed_right webs (op.Un k t a) h = h
-  directed_right webs (op.Bin k t a b) h = h
-  directed_right webs (op.Ext k t a) h = h
-  directed_right webs (op.AddrGlobal t g n) h = h
-  directed_right webs (op.AddrSlot t s) h = h
-  directed_right webs (op.AddrFn t f) h = h
-  directed_right webs (op.Load k t a) h = h
-  directed_right webs (op.Store k a b) h = h
-  directed_right webs (op.Move a b size unit) h = h
-  directed_right webs (op.Call t f args) h = h
-  directed_right webs (op.CallInd t a shape args) h = h
+  directed_right webs _ h = h
 
   module _ (ok : IsProgram p) where
     pub function_valid : (f : FlowFn) → Has f (functions_of p) → IsFunction f

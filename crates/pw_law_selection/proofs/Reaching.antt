@@ -1,8 +1,8 @@
 -- Operations that call a function: which one, with which arguments.
-use Rattle.std.proofs.Common.{◌≡◌, ◌⊎◌, ℕ, zero, suc, ◌+◌, ◌^◌, ◌<◌, ◌≤◌, Bool, true, false, true≢false, if◌then◌else◌, Option, Some, None, List, [], ◌∷◌, map, length, slice_get, slice_index_or, refl, ap, ap₂, sym, subst, arith, inl, inr, bytes_eq}
+use Rattle.std.proofs.Common.{◌≡◌, ◌⊎◌, ℕ, zero, suc, ◌+◌, ◌^◌, ◌<◌, ◌≤◌, Bool, true, false, true≢false, if◌then◌else◌, Option, Some, None, List, [], ◌∷◌, map, length, slice_get, slice_index_or, refl, ap₂, sym, subst, arith, inl, inr, bytes_eq}
 use Rattle.std.specs.Prelude.{Contains}
 use Rattle.pw_value.specs.declared.value.Value.{Value}
-use Rattle.pw_value.specs.declared.value.Value.TheVariants.{Undefined, Num, Null, At, Piece}
+use Rattle.pw_value.specs.declared.value.Value.TheVariants.{Undefined, At}
 use Rattle.pw_value.specs.declared.value.Pointer.TheVariants as P
 use Rattle.pw_files.proofs.Standing.{each_by, contains_by, has_flat}
 use Rattle.pw_db.specs.Limits.{first_register, last_register, register_count}
@@ -56,28 +56,6 @@ value_known p m t known = known_by p m t (register_at m.frame.function.places t)
 
 -- ---- commands of calls
 
-map_same : (f g : ℕ → Value) → ((t : ℕ) → f t ≡ g t) → (xs : List ℕ) → map f xs ≡ map g xs
-map_same f g same [] = refl
-map_same f g same (x ∷ xs) = ap₂ (λ (v : Value) (vs : List Value). v ∷ vs) (same x) (map_same f g same xs)
-
-pub command_same : (p : Program) (base : ℕ) (o : Op) (value other : ℕ → Value) → op_calls o ≡ true → ((t : ℕ) → value t ≡ other t) → command p base o value ≡ command p base o other
-unfolding command
-command_same p base (op.Call t f args) value other calls same = ap (Enter t f) (map_same value other same args)
-command_same p base (op.CallInd t a shape args) value other calls same = ap₂ (λ (v : Value) (vs : List Value). enter_value p t v shape vs) (same a) (map_same value other same args)
-command_same p base (op.Const t n) value other calls same = absurd (true≢false (sym calls))
-command_same p base (op.Copy t a) value other calls same = absurd (true≢false (sym calls))
-command_same p base (op.Un k t a) value other calls same = absurd (true≢false (sym calls))
-command_same p base (op.Bin k t a b) value other calls same = absurd (true≢false (sym calls))
-command_same p base (op.Ext k t a) value other calls same = absurd (true≢false (sym calls))
-command_same p base (op.AddrGlobal t g n) value other calls same = absurd (true≢false (sym calls))
-command_same p base (op.AddrSlot t s) value other calls same = absurd (true≢false (sym calls))
-command_same p base (op.AddrFn t f) value other calls same = absurd (true≢false (sym calls))
-command_same p base (op.LoadG t g k) value other calls same = absurd (true≢false (sym calls))
-command_same p base (op.StoreG g a k) value other calls same = absurd (true≢false (sym calls))
-command_same p base (op.Load k t a) value other calls same = absurd (true≢false (sym calls))
-command_same p base (op.Store k a b) value other calls same = absurd (true≢false (sym calls))
-command_same p base (op.Move a b size unit) value other calls same = absurd (true≢false (sym calls))
-
 -- a function is called with values of temporaries, for a temporary of the caller or none, or there is no such function
 pub record Enters (temps : ℕ) (value : ℕ → Value) (c : Command) : Type 0 where
   pub result : Option ℕ
@@ -104,30 +82,14 @@ at_enters p temps value t shape args None fits = inr refl
 value_enters : (p : Program) (temps : ℕ) (value : ℕ → Value) (t : Option ℕ) (v : Value) (shape args : List ℕ) → IsResult temps t
     → Enters temps value (enter_value p t v shape (map value args)) ⊎ (enter_value p t v shape (map value args) ≡ Fail)
 value_enters p temps value t (At (P.Function n)) shape args fits = at_enters p temps value t shape args (function_at p n) fits
-value_enters p temps value t (At (P.Object o i)) shape args fits = inr refl
-value_enters p temps value t Undefined shape args fits = inr refl
-value_enters p temps value t (Num n) shape args fits = inr refl
-value_enters p temps value t Null shape args fits = inr refl
-value_enters p temps value t (Piece x i) shape args fits = inr refl
+value_enters p temps value t _ shape args fits = inr refl
 
 pub call_enters : (p : Program) (base temps slots : ℕ) (o : Op) (value : ℕ → Value) → op_calls o ≡ true → IsOp temps slots o
     → Enters temps value (command p base o value) ⊎ (command p base o value ≡ Fail)
 unfolding command
 call_enters p base temps slots (op.Call t f args) value calls valid = inl (record { result = t; name = f; from = args; is = refl; fits = valid.0 })
 call_enters p base temps slots (op.CallInd t a shape args) value calls valid = value_enters p temps value t (value a) shape args valid.0
-call_enters p base temps slots (op.Const t n) value calls valid = absurd (true≢false (sym calls))
-call_enters p base temps slots (op.Copy t a) value calls valid = absurd (true≢false (sym calls))
-call_enters p base temps slots (op.Un k t a) value calls valid = absurd (true≢false (sym calls))
-call_enters p base temps slots (op.Bin k t a b) value calls valid = absurd (true≢false (sym calls))
-call_enters p base temps slots (op.Ext k t a) value calls valid = absurd (true≢false (sym calls))
-call_enters p base temps slots (op.AddrGlobal t g n) value calls valid = absurd (true≢false (sym calls))
-call_enters p base temps slots (op.AddrSlot t s) value calls valid = absurd (true≢false (sym calls))
-call_enters p base temps slots (op.AddrFn t f) value calls valid = absurd (true≢false (sym calls))
-call_enters p base temps slots (op.LoadG t g k) value calls valid = absurd (true≢false (sym calls))
-call_enters p base temps slots (op.StoreG g a k) value calls valid = absurd (true≢false (sym calls))
-call_enters p base temps slots (op.Load k t a) value calls valid = absurd (true≢false (sym calls))
-call_enters p base temps slots (op.Store k a b) value calls valid = absurd (true≢false (sym calls))
-call_enters p base temps slots (op.Move a b size unit) value calls valid = absurd (true≢false (sym calls))
+call_enters p base temps slots _ value calls valid = absurd (true≢false (sym calls))
 
 -- a temporary that takes the result is one of them
 pub fits_inside : (temps : ℕ) (t : Option ℕ) → IsResult temps t → (k : ℕ) → t ≡ Some k → k < temps

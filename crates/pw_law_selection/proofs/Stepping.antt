@@ -17,9 +17,10 @@ use Rattle.pw_run_languages.specs.Addresses.{Addresses}
 use Rattle.pw_run_languages.specs.Commands.{Command, Enter, Fail, command}
 use Rattle.pw_run_languages.specs.LineRun as run
 use Rattle.pw_run_languages.specs.PlacedRun as placed
-use Rattle.pw_run_languages.specs.PlacedRun.{PlacedProgram, value_in, exceeds, calls_library, calls_defined, noted, obeys, leaves_webs, entered_webs}
+use Rattle.pw_run_languages.specs.PlacedRun.{PlacedProgram, value_in, exceeds, calls_library, calls_defined, noted, obeys}
 use Rattle.pw_run_languages.specs.Direction.{with_functions}
 use Rattle.pw_run_languages.specs.SelectionLaws.{line_program}
+use Rattle.pw_law_operations.proofs.Asking.{commands_rest_on_uses}
 use Rattle.pw_law_select_states.specs.Pointers.{AreKnown}
 use Rattle.pw_law_select_known.specs.Laws.{IsOfProgram, ResultsFit, FunctionsStandInBlocks, SlotsAreBehindGlobals}
 use Rattle.pw_law_select_frames.specs.Answering.{AnswersAreTaken}
@@ -30,7 +31,7 @@ use Rattle.pw_law_selection.specs.Words.{RegistersHoldWords}
 use Rattle.pw_law_selection.proofs.Given.{IsFine, functions_fine, op_lawful}
 use Rattle.pw_law_selection.proofs.Operating.{StepLaws, operation_follows, block_end_follows}
 use Rattle.pw_law_selection.proofs.Returning.{ReturnLaws, return_follows}
-use Rattle.pw_law_selection.proofs.Reaching.{value_same, command_same, Enters, call_enters}
+use Rattle.pw_law_selection.proofs.Reaching.{value_same, Enters, call_enters}
 use Rattle.pw_law_selection.proofs.Entering.{CallingLaws, AtCall, defined_follows}
 use Rattle.pw_law_selection.proofs.Library.{library_call_follows}
 
@@ -95,7 +96,7 @@ module _ (laws : AllLaws) (p : Program) (d : List (List ℕ × Directives)) (fun
         let inside = subst (λ (xs : List WebOp). IsOfProgram functions (record m.frame { ops = xs })) is stand.0 in
         let valid = op_lawful p d functions m.frame.function fine m.frame.block (Flow o) ops m.frame.end inside in
         let same : command p m.frame.base o (value_in next.frame next.registers) ≡ command p m.frame.base o (value_in m.frame m.registers) =
-        command_same p m.frame.base o (value_in next.frame next.registers) (value_in m.frame m.registers) call (value_same m.frame ops m.registers) in
+        commands_rest_on_uses p m.frame.base o (value_in next.frame next.registers) (value_in m.frame m.registers) (λ t used. value_same m.frame ops m.registers t) in
         subst (λ (c : Command). Follow p d functions w scratch (run.On l) (obeys full c next)) (sym same)
         (by_command (call_enters p m.frame.base m.frame.function.body.temps (length m.frame.function.body.slots) o (value_in m.frame m.registers) call valid))
 

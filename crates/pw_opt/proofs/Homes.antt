@@ -1,9 +1,8 @@
 -- Where constants take the place of operations, temporaries keep their places: blocks define the same, and read no more.
-use Rattle.std.specs.Prelude.{ℕ, zero, suc, ◌≡◌, ◌<◌, Bool, Option, Some, List, [], ◌∷◌, length, slice_get, All, Contains}
+use Rattle.std.specs.Prelude.{ℕ, zero, suc, ◌≡◌, ◌<◌, Bool, Some, List, [], ◌∷◌, slice_get, All, Contains}
 use Rattle.std.proofs.Common.{refl, sym, subst, ◌∙◌, arith, inl, inr}
 use Rattle.std.proofs.lemmas.Option.{same_Some, slice_get_within}
 use Rattle.pw_flow.specs.declared.flow.Op.{Op}
-use Rattle.pw_flow.specs.declared.flow.Op.TheVariants as op
 use Rattle.pw_flow.specs.declared.flow.End.{End}
 use Rattle.pw_flow.specs.declared.flow.End.TheVariants.{Jump, Branch, Return}
 use Rattle.pw_flow.specs.declared.flow.Block.{Block}
@@ -13,7 +12,8 @@ use Rattle.pw_opt_rules.specs.declared.flat.Flat.{Flat}
 use Rattle.pw_opt_rules.specs.declared.flat.Flat.TheVariants.{Bottom, One, Many}
 use Rattle.pw_opt_rules.specs.Rows.{known, behind}
 use Rattle.pw_opt_rules.specs.Rewriting.{rewritten_ops, rewritten_block, rewritten_blocks}
-use Rattle.pw_opt_rules.specs.Constants.{constant, const_or, constant_op, constant_transfer, jump_or, constant_end, constants}
+use Rattle.pw_opt_rules.specs.Constants.{constant_op, constant_transfer, jump_or, constant_end, constants}
+use Rattle.pw_opt_rules.proofs.Folding.{folded_holds}
 use Rattle.pw_opt_order.specs.Reads.{ReadsFirst}
 use Rattle.pw_opt_places.specs.declared.places.Place.{Place}
 use Rattle.pw_opt_places.specs.Places.{DefinesAtHome, ArePlacesOf}
@@ -21,29 +21,12 @@ use Rattle.pw_opt_rewrite.specs.Within.{IsRewrittenWithin}
 
 -- ---- operations and ends
 
-const_defines : (t : ℕ) (x : Flat) (o : Op) → op_defines o ≡ Some t → op_defines (const_or t x o) ≡ op_defines o
-const_defines t Bottom o e = refl
-const_defines t (One n) o e = sym e
-const_defines t Many o e = refl
-
 defines_stay : (row : List Flat) (o : Op) → op_defines (constant_op row o) ≡ op_defines o
-defines_stay row (op.Copy t a) = const_defines t (constant row (op.Copy t a)) (op.Copy t a) refl
-defines_stay row (op.Un k t a) = const_defines t (constant row (op.Un k t a)) (op.Un k t a) refl
-defines_stay row (op.Bin k t a b) = const_defines t (constant row (op.Bin k t a b)) (op.Bin k t a b) refl
-defines_stay row (op.Ext k t a) = const_defines t (constant row (op.Ext k t a)) (op.Ext k t a) refl
-defines_stay row o = refl
-
-const_uses : (t : ℕ) (x : Flat) (o : Op) (u : ℕ) → Contains (op_uses (const_or t x o)) u → Contains (op_uses o) u
-const_uses t Bottom o u c = c
-const_uses t (One n) o u c = absurd (let lt : c.0 < 0 = c.1 in omega (arith, lt))
-const_uses t Many o u c = c
+defines_stay row o = folded_holds (λ (x : Op). op_defines x ≡ op_defines o) row o refl (λ t n defines calls. sym defines)
 
 fewer_uses : (row : List Flat) (o : Op) (u : ℕ) → Contains (op_uses (constant_op row o)) u → Contains (op_uses o) u
-fewer_uses row (op.Copy t a) u c = const_uses t (constant row (op.Copy t a)) (op.Copy t a) u c
-fewer_uses row (op.Un k t a) u c = const_uses t (constant row (op.Un k t a)) (op.Un k t a) u c
-fewer_uses row (op.Bin k t a b) u c = const_uses t (constant row (op.Bin k t a b)) (op.Bin k t a b) u c
-fewer_uses row (op.Ext k t a) u c = const_uses t (constant row (op.Ext k t a)) (op.Ext k t a) u c
-fewer_uses row o u c = c
+fewer_uses row o u =
+    folded_holds (λ (x : Op). Contains (op_uses x) u → Contains (op_uses o) u) row o (λ c. c) (λ t n defines calls c. absurd (let lt : c.0 < 0 = c.1 in omega (arith, lt)))
 
 jump_uses : (x : Flat) (a b c u : ℕ) → Contains (end_uses (jump_or x a b c)) u → Contains (a ∷ []) u
 jump_uses Bottom a b c u k = k

@@ -1,6 +1,6 @@
 -- What is left sound between the steps: temporaries and blocks are those of the function.
-use Rattle.std.specs.Prelude.{ℕ, zero, suc, ◌≡◌, ◌<◌, ◌≤◌, ◌==◌, Bool, true, false, Some, None, List, [], ◌∷◌, length, map, All}
-use Rattle.std.specs.List.{AllByRecursion, list_any}
+use Rattle.std.specs.Prelude.{ℕ, zero, suc, ◌≡◌, ◌<◌, ◌≤◌, Bool, true, false, Option, Some, None, IfSome, List, [], ◌∷◌, length, map, All}
+use Rattle.std.specs.List.{AllByRecursion}
 use Rattle.std.proofs.Common.{refl, sym, ap, subst, arith, inl, inr}
 use Rattle.std.proofs.lemmas.Bool.{cases_lt}
 use Rattle.std.proofs.lemmas.List.{length-map, get_or_past}
@@ -11,17 +11,18 @@ use Rattle.pw_flow.specs.declared.flow.End.{End}
 use Rattle.pw_flow.specs.declared.flow.End.TheVariants.{Jump, Branch, Return}
 use Rattle.pw_flow.specs.declared.flow.Block.{Block}
 use Rattle.pw_flow.specs.declared.flow.FlowFn.{FlowFn}
-use Rattle.pw_flow.specs.Uses.{end_uses, successors}
+use Rattle.pw_flow.specs.Uses.{op_uses, op_defines, end_uses, successors}
 use Rattle.pw_flow.specs.Outline.{act_of, stretch_of, outline_of}
-use Rattle.pw_flow.specs.ValidFlow.{IsOp, IsEnd, IsBlock, IsFunction}
+use Rattle.pw_flow.specs.ValidFlow.{IsOp, IsBlock, IsFunction}
 use Rattle.pw_live_fronts.specs.Blocks.{IsAct, IsStretch, IsOutline}
 use Rattle.pw_live_outline.proofs.Lawful.{op_reads, op_writes, end_reads, end_goes}
 use Rattle.pw_opt_rules.specs.declared.flat.Flat.{Flat}
 use Rattle.pw_opt_rules.specs.declared.flat.Flat.TheVariants.{Bottom, One, Many}
 use Rattle.pw_opt_rules.specs.Rows.{known, behind}
 use Rattle.pw_opt_rules.specs.Rewriting.{Rewriting, rewritten_ops, rewritten_block, rewritten_blocks}
-use Rattle.pw_opt_rules.specs.Constants.{constant, const_or, constant_op, jump_or, constant_end, constants}
+use Rattle.pw_opt_rules.specs.Constants.{constant_op, jump_or, constant_end, constants}
 use Rattle.pw_opt_rules.specs.Copies.{one_or, original, with_operands, with_end_operand, copies}
+use Rattle.pw_opt_rules.proofs.Folding.{folded_holds}
 use Rattle.pw_opt_rows.specs.Joins.{HasWhatMay}
 use Rattle.pw_opt_rows.specs.Outflows.{HasWays, AreAbout}
 use Rattle.pw_opt_copies.specs.Originals.{may_copy, is_noted, CopiesBelow}
@@ -160,17 +161,9 @@ rewritten_sound w may about f g k all s r = subst IsSound (sym r.is) (record {
 
 -- ---- constants
 
-const_sound : (temps t : ℕ) (x : Flat) (o : Op) → t < temps → IsSoundOp temps o → IsSoundOp temps (const_or t x o)
-const_sound temps t Bottom o lt s = s
-const_sound temps t (One n) o lt s = record { defines = lt; uses = tt }
-const_sound temps t Many o lt s = s
-
 constant_sound : (temps : ℕ) (row : List Flat) (o : Op) → IsSoundOp temps o → IsSoundOp temps (constant_op row o)
-constant_sound temps row (op.Copy t a) s = const_sound temps t (constant row (op.Copy t a)) (op.Copy t a) s.defines s
-constant_sound temps row (op.Un k t a) s = const_sound temps t (constant row (op.Un k t a)) (op.Un k t a) s.defines s
-constant_sound temps row (op.Bin k t a b) s = const_sound temps t (constant row (op.Bin k t a b)) (op.Bin k t a b) s.defines s
-constant_sound temps row (op.Ext k t a) s = const_sound temps t (constant row (op.Ext k t a)) (op.Ext k t a) s.defines s
-constant_sound temps row o s = s
+constant_sound temps row o s =
+    folded_holds (IsSoundOp temps) row o s (λ t n defines calls. record { defines = subst (λ (d : Option ℕ). IfSome d (λ t. t < temps)) defines s.defines; uses = tt })
 
 jump_uses : (temps : ℕ) (x : Flat) (a b c : ℕ) → AllByRecursion (λ t. t < temps) (a ∷ []) → AllByRecursion (λ t. t < temps) (end_uses (jump_or x a b c))
 jump_uses temps Bottom a b c s = s
@@ -204,8 +197,16 @@ constants_sound temps count = record {
 
 -- ---- copies
 
-original_below : (originals : List Bool) (t a : ℕ) → may_copy originals t a ≡ true → a < length originals
-original_below originals t a e = elim (cases_lt a (length originals)) [
+operands_define : (h : ℕ → ℕ) (o : Op) → op_defines (with_operands h o) ≡ op_defines o
+operands_define h (op.Const t n) = refl
+operands_define h o = refl
+
+operands_use : (h : ℕ → ℕ) (o : Op) → op_uses (with_operands h o) ≡ map h (op_uses o)
+operands_use h (op.Const t n) = refl
+operands_use h o = refl
+
+copied_below : (originals : List Bool) (t a : ℕ) → may_copy originals t a ≡ true → a < length originals
+copied_below originals t a e = elim (cases_lt a (length originals)) [
   | inl lt ↦ lt
   | inr past ↦ absurd (let none : may_copy originals t a ≡ false = get_or_past originals a false past in cc)
 ]
@@ -213,7 +214,7 @@ original_below originals t a e = elim (cases_lt a (length originals)) [
 module _ (originals : List Bool) (temps : ℕ) (long : length originals ≡ temps) (row : List Flat) (has : HasWhatMay (may_copy originals) row) where
   one_below : (a : ℕ) (x : Flat) → known row a ≡ x → a < temps → one_or x a < temps
   one_below a Bottom e lt = lt
-  one_below a (One n) e lt = let low = original_below originals a n (has a n e) in omega (arith, low, long)
+  one_below a (One n) e lt = let low = copied_below originals a n (has a n e) in omega (arith, low, long)
   one_below a Many e lt = lt
 
   original_below : (a : ℕ) → a < temps → original row a < temps
@@ -223,21 +224,10 @@ module _ (originals : List Bool) (temps : ℕ) (long : length originals ≡ temp
   args_below args all = all_mapped (λ a. a < temps) (λ a. a < temps) (original row) args original_below all
 
   operands_sound : (o : Op) → IsSoundOp temps o → IsSoundOp temps (with_operands (original row) o)
-  operands_sound (op.Const t n) s = s
-  operands_sound (op.Copy t a) s = record { defines = s.defines; uses = (original_below a s.uses.0, tt) }
-  operands_sound (op.Un k t a) s = record { defines = s.defines; uses = (original_below a s.uses.0, tt) }
-  operands_sound (op.Bin k t a b) s = record { defines = s.defines; uses = (original_below a s.uses.0, (original_below b s.uses.1.0, tt)) }
-  operands_sound (op.Ext k t a) s = record { defines = s.defines; uses = (original_below a s.uses.0, tt) }
-  operands_sound (op.AddrGlobal t g n) s = s
-  operands_sound (op.AddrSlot t i) s = s
-  operands_sound (op.AddrFn t f) s = s
-  operands_sound (op.LoadG t g k) s = s
-  operands_sound (op.StoreG g a k) s = record { defines = s.defines; uses = (original_below a s.uses.0, tt) }
-  operands_sound (op.Load k t a) s = record { defines = s.defines; uses = (original_below a s.uses.0, tt) }
-  operands_sound (op.Store k a b) s = record { defines = s.defines; uses = (original_below a s.uses.0, (original_below b s.uses.1.0, tt)) }
-  operands_sound (op.Move a b size unit) s = record { defines = s.defines; uses = (original_below a s.uses.0, (original_below b s.uses.1.0, tt)) }
-  operands_sound (op.Call t f args) s = record { defines = s.defines; uses = args_below args s.uses }
-  operands_sound (op.CallInd t a shape args) s = record { defines = s.defines; uses = (original_below a s.uses.0, args_below args s.uses.1) }
+  operands_sound o s = record {
+    defines = subst (λ (d : Option ℕ). IfSome d (λ t. t < temps)) (sym (operands_define (original row) o)) s.defines;
+    uses = subst (AllByRecursion (λ t. t < temps)) (sym (operands_use (original row) o)) (args_below (op_uses o) s.uses);
+  }
 
   end_operand_uses : (e : End) → AllByRecursion (λ t. t < temps) (end_uses e) → AllByRecursion (λ t. t < temps) (end_uses (with_end_operand (original row) e))
   end_operand_uses (Jump b) s = s

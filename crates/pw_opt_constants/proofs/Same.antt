@@ -12,19 +12,7 @@ originals_stay (a ∷ args) = ap (λ (rest : List ℕ). a ∷ rest) (originals_s
 operands_stay : (o : Op) → with_operands (original []) o ≡ o
 operands_stay (op.Call t f args) = ap (op.Call t f) (originals_stay args)
 operands_stay (op.CallInd t a shape args) = ap (op.CallInd t a shape) (originals_stay args)
-operands_stay (op.Const t n) = refl
-operands_stay (op.Copy t a) = refl
-operands_stay (op.Un k t a) = refl
-operands_stay (op.Bin k t a b) = refl
-operands_stay (op.Ext k t a) = refl
-operands_stay (op.AddrGlobal t g n) = refl
-operands_stay (op.AddrSlot t s) = refl
-operands_stay (op.AddrFn t f) = refl
-operands_stay (op.LoadG t g k) = refl
-operands_stay (op.StoreG g a k) = refl
-operands_stay (op.Load k t a) = refl
-operands_stay (op.Store k a b) = refl
-operands_stay (op.Move a b size unit) = refl
+operands_stay _ = refl
 
 pub nothing_known : (row : List Flat) (o : Op) → row ≡ [] → with_operands (original row) o ≡ o
 nothing_known row o is = ap (λ (r : List Flat). with_operands (original r) o) is ∙ operands_stay o
