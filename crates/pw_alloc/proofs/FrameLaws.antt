@@ -1,5 +1,5 @@
 -- Laws of frames.
-use Rattle.std.proofs.Common.{◌≡◌, ℕ, ◌+◌, ◌*◌, ◌/◌, ◌≤◌, ◌<◌, ◌^◌, max, List, [], ◌∷◌, ◌++◌, length, ap, ◌∙◌, arith}
+use Rattle.std.proofs.Common.{◌≡◌, ℕ, ◌+◌, ◌*◌, ◌≤◌, ◌<◌, ◌^◌, max, List, [], ◌∷◌, ◌++◌, length, ap, ◌∙◌, arith}
 use Rattle.std.specs.Prelude.{slice_index_or}
 use Rattle.std.specs.List.{flat_map, AllByRecursion}
 use Rattle.pw_value.specs.Limits.{parameter_limit}
@@ -7,7 +7,7 @@ use Rattle.pw_db.specs.Limits.{register_count}
 use Rattle.pw_flow.specs.ValidFlow.{rooms}
 use Rattle.pw_flow.proofs.Rooms.{grows}
 use Rattle.pw_flow.specs.declared.flow.Op.TheVariants as op
-use Rattle.pw_webflow.specs.declared.web.WebOp.TheVariants.{Flow, Read, Write}
+use Rattle.pw_webflow.specs.declared.web.WebOp.TheVariants.{Flow}
 use Rattle.pw_webflow.specs.declared.web.WebFn.{WebFn}
 use Rattle.pw_webflow.specs.ValidWebs.{IsWebOp, IsWebBlock, IsWebFn}
 use Rattle.pw_webflow.specs.declared.web.WebOp.{WebOp}
@@ -42,21 +42,7 @@ reach_of_rooms at room (size ∷ slots) =
 few_of_op : (f : WebFn) (o : WebOp) → IsWebOp f o → argument_count o ≤ parameter_limit
 few_of_op f (Flow (op.Call t g args)) h = h.1.few
 few_of_op f (Flow (op.CallInd t a shape args)) h = h.2.few
-few_of_op f (Flow (op.Const t n)) h = omega arith
-few_of_op f (Flow (op.Copy t a)) h = omega arith
-few_of_op f (Flow (op.Un k t a)) h = omega arith
-few_of_op f (Flow (op.Bin k t a b)) h = omega arith
-few_of_op f (Flow (op.Ext k t a)) h = omega arith
-few_of_op f (Flow (op.AddrGlobal t g n)) h = omega arith
-few_of_op f (Flow (op.AddrSlot t s)) h = omega arith
-few_of_op f (Flow (op.AddrFn t g)) h = omega arith
-few_of_op f (Flow (op.LoadG t g k)) h = omega arith
-few_of_op f (Flow (op.StoreG g a k)) h = omega arith
-few_of_op f (Flow (op.Load k t a)) h = omega arith
-few_of_op f (Flow (op.Store k a b)) h = omega arith
-few_of_op f (Flow (op.Move a b size unit)) h = omega arith
-few_of_op f (Read t r) h = omega arith
-few_of_op f (Write r a) h = omega arith
+few_of_op f _ h = omega arith
 
 few_of_ops : (f : WebFn) (ops : List WebOp) → AllByRecursion (IsWebOp f) ops → most_arguments ops ≤ parameter_limit
 few_of_ops f [] h = omega arith

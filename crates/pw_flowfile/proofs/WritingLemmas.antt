@@ -21,7 +21,7 @@ use Rattle.pw_flow.specs.declared.flow.Op.{Op}
 use Rattle.pw_flow.specs.declared.flow.Block.{Block}
 use Rattle.pw_flow.specs.declared.flow.FlowFn.{FlowFn}
 use Rattle.pw_flow.specs.declared.flow.FlowModule.{FlowModule}
-use Rattle.pw_flow.specs.declared.flow.Op.TheVariants.{Const, Copy, Un, Bin, Ext, AddrGlobal, AddrSlot, AddrFn, LoadG, StoreG, Load, Store, Move, Call, CallInd}
+use Rattle.pw_flow.specs.declared.flow.Op.TheVariants.{Const, CallInd}
 use Rattle.pw_flow.specs.ValidFlow.{IsValid}
 use Rattle.pw_flow_ops.specs.Operations.{result, arguments, op, ending, FitsOp}
 use Rattle.pw_flowfile.specs.FlowFile.{names_of, item, placed_item, global_body, global, block, function, spelling, FitsBlock, FitsFunction, FitsGlobal, FitsModule, IsFlowFile, kind_of_file, flow_version}
@@ -47,38 +47,12 @@ length-text bytes = behind_word (length bytes) bytes
 
 op_long : (names : List (List ℕ)) (o : Op) → 1 ≤ length (op names o)
 op_long names (Const t n) = omega arith
-op_long names (Copy t a) = omega arith
-op_long names (Un k t a) = omega arith
-op_long names (Bin k t a b) = omega arith
-op_long names (Ext k t a) = omega arith
-op_long names (AddrGlobal t g n) = omega arith
-op_long names (AddrSlot t s) = omega arith
-op_long names (AddrFn t f) = omega arith
-op_long names (LoadG t g k) = omega arith
-op_long names (StoreG g a k) = omega arith
-op_long names (Load k t a) = omega arith
-op_long names (Store k a b) = omega arith
-op_long names (Move a b size unit) = omega arith
-op_long names (Call t f args) = omega arith
-op_long names (CallInd t a shape args) = omega arith
+op_long names _ = omega arith
 
 op_fits : (names : List (List ℕ)) (o : Op) → length (op names o) < 2 ^ 32 → FitsOp o
-op_fits names (Const t n) room = tt
-op_fits names (Copy t a) room = tt
-op_fits names (Un k t a) room = tt
-op_fits names (Bin k t a b) room = tt
-op_fits names (Ext k t a) room = tt
-op_fits names (AddrGlobal t g n) room = tt
-op_fits names (AddrSlot t s) room = tt
-op_fits names (AddrFn t f) room = tt
-op_fits names (LoadG t g k) room = tt
-op_fits names (StoreG g a k) room = tt
-op_fits names (Load k t a) room = tt
-op_fits names (Store k a b) room = tt
-op_fits names (Move a b size unit) room = tt
-op_fits names (Call t f args) room = tt
 op_fits names (CallInd t a shape args) room =
     omega (arith, room, length-append (result t) (u32 a ++ (text shape ++ (arguments args ++ []))), behind_word a (text shape ++ (arguments args ++ [])), length-append (text shape) (arguments args ++ []), length-text shape)
+op_fits names _ room = tt
 
 block_long : (names : List (List ℕ)) (b : Block) → 1 ≤ length (block names b)
 block_long names b = omega (arith, behind_word b.depth (u32 (length b.ops) ++ (flat_map (op names) b.ops ++ (ending b.end ++ []))))

@@ -437,21 +437,11 @@ abbrev pub Anything : List ℕ → Type 0
 Anything name = Unit {0}
 
 any_flow : (o : Op) → KnowsFlow Anything Anything o
-any_flow (op.Const t n) = tt
-any_flow (op.Copy t a) = tt
-any_flow (op.Un k t a) = tt
-any_flow (op.Bin k t a b) = tt
-any_flow (op.Ext k t a) = tt
 any_flow (op.AddrGlobal t x n) = (tt, tt)
-any_flow (op.AddrSlot t s) = tt
 any_flow (op.AddrFn t f) = (tt, tt)
 any_flow (op.LoadG t x k) = (tt, tt)
 any_flow (op.StoreG x a k) = (tt, tt)
-any_flow (op.Load k t a) = tt
-any_flow (op.Store k a b) = tt
-any_flow (op.Move a b size unit) = tt
-any_flow (op.Call t f args) = tt
-any_flow (op.CallInd t a shape args) = tt
+any_flow _ = tt
 
 any_op : (o : WebOp) → KnowsOp Anything Anything o
 any_op (Flow o) = any_flow o

@@ -19,37 +19,25 @@ Below temps ts = AllByRecursion (λ t. t < temps) ts
 
 pub op_reads : (temps slots : ℕ) (o : Op) → IsOp temps slots o → Below temps (op_uses o)
 op_reads temps slots (op.Const t n) is = tt
-op_reads temps slots (op.Copy t a) is = (is.1, tt)
-op_reads temps slots (op.Un k t a) is = (is.1, tt)
 op_reads temps slots (op.Bin k t a b) is = (is.1, (is.2, tt))
-op_reads temps slots (op.Ext k t a) is = (is.1, tt)
 op_reads temps slots (op.AddrGlobal t g n) is = tt
 op_reads temps slots (op.AddrSlot t s) is = tt
 op_reads temps slots (op.AddrFn t f) is = tt
 op_reads temps slots (op.LoadG t g k) is = tt
 op_reads temps slots (op.StoreG g a k) is = (is, tt)
-op_reads temps slots (op.Load k t a) is = (is.1, tt)
 op_reads temps slots (op.Store k a b) is = (is.0, (is.1, tt))
 op_reads temps slots (op.Move a b size unit) is = (is.0, (is.1, tt))
 op_reads temps slots (op.Call t f args) is = is.1.below
 op_reads temps slots (op.CallInd t a shape args) is = (is.1, is.2.below)
+op_reads temps slots _ is = (is.1, tt)
 
 pub op_writes : (temps slots : ℕ) (o : Op) → IsOp temps slots o → IfSome (op_defines o) (λ t. t < temps)
-op_writes temps slots (op.Const t n) is = is.0
-op_writes temps slots (op.Copy t a) is = is.0
-op_writes temps slots (op.Un k t a) is = is.0
-op_writes temps slots (op.Bin k t a b) is = is.0
-op_writes temps slots (op.Ext k t a) is = is.0
-op_writes temps slots (op.AddrGlobal t g n) is = is.0
-op_writes temps slots (op.AddrSlot t s) is = is.0
 op_writes temps slots (op.AddrFn t f) is = is
 op_writes temps slots (op.LoadG t g k) is = is
 op_writes temps slots (op.StoreG g a k) is = tt
-op_writes temps slots (op.Load k t a) is = is.0
 op_writes temps slots (op.Store k a b) is = tt
 op_writes temps slots (op.Move a b size unit) is = tt
-op_writes temps slots (op.Call t f args) is = is.0
-op_writes temps slots (op.CallInd t a shape args) is = is.0
+op_writes temps slots _ is = is.0
 
 acts_are : (temps slots : ℕ) (ops : List Op) → AllByRecursion (IsOp temps slots) ops → AllByRecursion (IsAct temps) (map act_of ops)
 acts_are temps slots [] all = tt

@@ -25,21 +25,10 @@ small_unit unit (inr (inl e)) = omega arith
 small_unit unit (inr (inr e)) = omega arith
 
 op_selectable : (f : WebFn) (o : WebOp) → IsWebOp f o → IsSelectable o
-op_selectable f (Flow (op.Const t n)) h = (tt, tt)
-op_selectable f (Flow (op.Copy t a)) h = (tt, tt)
-op_selectable f (Flow (op.Un k t a)) h = (tt, tt)
-op_selectable f (Flow (op.Bin k t a b)) h = (tt, tt)
-op_selectable f (Flow (op.Ext k t a)) h = (tt, tt)
-op_selectable f (Flow (op.AddrGlobal t g n)) h = (tt, tt)
-op_selectable f (Flow (op.AddrSlot t s)) h = (tt, tt)
-op_selectable f (Flow (op.AddrFn t g)) h = (tt, tt)
-op_selectable f (Flow (op.LoadG t g k)) h = (tt, tt)
-op_selectable f (Flow (op.StoreG g a k)) h = (tt, tt)
-op_selectable f (Flow (op.Load k t a)) h = (tt, tt)
-op_selectable f (Flow (op.Store k a b)) h = (tt, tt)
 op_selectable f (Flow (op.Move a b size unit)) h = (tt, small_unit unit h.2.units)
 op_selectable f (Flow (op.Call t g args)) h = (h.1.few, tt)
 op_selectable f (Flow (op.CallInd t a shape args)) h = (h.2.few, tt)
+op_selectable f (Flow _) h = (tt, tt)
 op_selectable f (Read t r) h = tt
 op_selectable f (Write r a) h = tt
 

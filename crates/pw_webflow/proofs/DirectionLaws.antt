@@ -37,19 +37,7 @@ op_lawful f d (op.StoreG g a k) h = by (register_of d.webs g) refl
     by : (r : Option ℕ) → register_of d.webs g ≡ r → IsWebOp (directed f d) (write_of r a (op.StoreG g a k))
     by None e = h
     by (Some r) e = (register_found d.webs g r e, h)
-op_lawful f d (op.Const t n) h = h
-op_lawful f d (op.Copy t a) h = h
-op_lawful f d (op.Un k t a) h = h
-op_lawful f d (op.Bin k t a b) h = h
-op_lawful f d (op.Ext k t a) h = h
-op_lawful f d (op.AddrGlobal t g n) h = h
-op_lawful f d (op.AddrSlot t s) h = h
-op_lawful f d (op.AddrFn t g) h = h
-op_lawful f d (op.Load k t a) h = h
-op_lawful f d (op.Store k a b) h = h
-op_lawful f d (op.Move a b size unit) h = h
-op_lawful f d (op.Call t g args) h = h
-op_lawful f d (op.CallInd t a shape args) h = h
+op_lawful f d _ h = h
 
 ops_lawful : (f : FlowFn) (d : Directives) (ops : List Op) → AllByRecursion (IsOp f.temps (length f.slots)) ops → AllByRecursion (IsWebOp (directed f d)) (map (directed_op d.webs) ops)
 ops_lawful f d [] h = tt

@@ -23,19 +23,7 @@ act_stays webs (op.StoreG g a k) = by (register_of webs g)
     by : (r : Option ℕ) → web_act (write_of r a (op.StoreG g a k)) ≡ act_of (op.StoreG g a k)
     by None = refl
     by (Some r) = refl
-act_stays webs (op.Const t n) = refl
-act_stays webs (op.Copy t a) = refl
-act_stays webs (op.Un k t a) = refl
-act_stays webs (op.Bin k t a b) = refl
-act_stays webs (op.Ext k t a) = refl
-act_stays webs (op.AddrGlobal t g n) = refl
-act_stays webs (op.AddrSlot t s) = refl
-act_stays webs (op.AddrFn t f) = refl
-act_stays webs (op.Load k t a) = refl
-act_stays webs (op.Store k a b) = refl
-act_stays webs (op.Move a b size unit) = refl
-act_stays webs (op.Call t f args) = refl
-act_stays webs (op.CallInd t a shape args) = refl
+act_stays webs _ = refl
 
 acts_stay : (webs : List (Web × Role)) (ops : List Op) → map web_act (map (directed_op webs) ops) ≡ map act_of ops
 acts_stay webs [] = refl
