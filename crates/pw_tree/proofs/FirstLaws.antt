@@ -5,7 +5,7 @@ use Rattle.pw_tree.specs.FirstTokens.{first_of_expr, first_of_specifiers, first_
 use Rattle.pw_tree.specs.Numbering.{Numbered, NumberedSpecifiers, NumberedDeclarator, NumberedMemberDeclarators, NumberedLabel, NumberedStmt}
 use Rattle.pw_tree.specs.Scopes.{Env}
 use Rattle.pw_tree.specs.Spelling.{spell_expr}
-use Rattle.pw_tree.specs.Trees.{Expr, Identifier, Number, Floating, Character, Wide, Strings, Paren, Postfix, Unary, SizeofType, Cast, Chain, Conditional, Assign, Specifiers, NoSpecifier, Storage, Qualified, Basic, TypedefName, RecordTag, Record, EnumTag, Enum, MemberDeclarators, NoMemberDeclarator, PlainMember, BitField, Padding, Declarator, Declaring, Absent, Name, Enclosed, NoSuffix, Array, OpenArray, Prototype, Variadic, Identifiers, Label, CaseLabel, DefaultLabel, NameLabel, Stmt, Compound, Expression, Empty, Labeled, If, Switch, While, Do, For, Goto, Continue, Break, Return, Braced}
+use Rattle.pw_tree.specs.Trees.{Expr, Identifier, Number, Floating, Character, Wide, Strings, Paren, Postfix, Unary, SizeofType, Cast, Chain, Conditional, Assign, Specifiers, NoSpecifier, Storage, Qualified, Basic, TypedefName, RecordTag, Record, EnumTag, Enum, MemberDeclarators, NoMemberDeclarator, PlainMember, BitField, Padding, Declarator, Declaring, Absent, Name, Enclosed, NoSuffix, Array, OpenArray, Prototype, Variadic, Identifiers, Label, CaseLabel, DefaultLabel, NameLabel, Stmt, Compound, Expression, Labeled, If, Switch, While, Do, For, Goto, Return, Braced}
 use Rattle.pw_tree.specs.WellFormed.{HasSpecifier, IsSomething, WellFormed, WellFormedDeclarator, WellFormedMemberDeclarators, WellFormedStmt, HasMemberDeclarator, Named}
 
 some : {n m : ℕ} → n ≡ m → Some n ≡ Some m
@@ -83,7 +83,6 @@ pub stmt-first : (env : Env) (n : ℕ) (s : Stmt) → WellFormedStmt env s → N
 unfolding first_of_stmt WellFormedStmt NumberedStmt
 stmt-first env n (Compound (Braced t ds ss)) h k = k.0
 stmt-first env n (Expression e) h k = expr-first env n e h k
-stmt-first env n (Empty t) h k = k
 stmt-first env n (Labeled [] s) h k = absurd h.0
 stmt-first env n (Labeled (l ∷ ls) s) h k = label-first n l k.0.0
 stmt-first env n (If t c s a) h k = k.0
@@ -92,6 +91,5 @@ stmt-first env n (While t e s) h k = k.0
 stmt-first env n (Do t s e) h k = k.0
 stmt-first env n (For t a b c s) h k = k.0
 stmt-first env n (Goto t w) h k = k.0
-stmt-first env n (Continue t) h k = k
-stmt-first env n (Break t) h k = k
 stmt-first env n (Return t e) h k = k.0
+stmt-first env n _ h k = k

@@ -25,38 +25,7 @@ found_text text (x ∷ xs) s a h = by_test text x a s (with_text text xs s) (byt
 
 pub keyword_of_text : (w : Keyword) → keyword_of (keyword_text w) ≡ Some w
 unfolding keyword_of
-keyword_of_text k.Auto = refl
-keyword_of_text k.Break = refl
-keyword_of_text k.Case = refl
-keyword_of_text k.Char = refl
-keyword_of_text k.Const = refl
-keyword_of_text k.Continue = refl
-keyword_of_text k.Default = refl
-keyword_of_text k.Do = refl
-keyword_of_text k.Double = refl
-keyword_of_text k.Else = refl
-keyword_of_text k.Enum = refl
-keyword_of_text k.Extern = refl
-keyword_of_text k.Float = refl
-keyword_of_text k.For = refl
-keyword_of_text k.Goto = refl
-keyword_of_text k.If = refl
-keyword_of_text k.Int = refl
-keyword_of_text k.Long = refl
-keyword_of_text k.Register = refl
-keyword_of_text k.Return = refl
-keyword_of_text k.Short = refl
-keyword_of_text k.Signed = refl
-keyword_of_text k.Sizeof = refl
-keyword_of_text k.Static = refl
-keyword_of_text k.Struct = refl
-keyword_of_text k.Switch = refl
-keyword_of_text k.Typedef = refl
-keyword_of_text k.Union = refl
-keyword_of_text k.Unsigned = refl
-keyword_of_text k.Void = refl
-keyword_of_text k.Volatile = refl
-keyword_of_text k.While = refl
+keyword_of_text _ = refl
 
 pub mark_of_text : (s : Mark) → mark_of (mark_text s) ≡ Some s
 unfolding mark_of

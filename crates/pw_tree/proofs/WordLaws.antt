@@ -3,7 +3,7 @@ use Rattle.std.proofs.Common.{Bool, true, false, List, [], ◌∷◌, Option, So
 use Rattle.pw_token.specs.Spelling.{Spells}
 use Rattle.pw_tree.specs.Spelling.{identifier, separated, trailed, spell_identifiers, spell_strings, spell_tag, spell_qualifiers, spell_pointers, spell_expr, spell_postfixes, spell_arguments, spell_operations, spell_specifiers, spell_members, spell_member_declarators, spell_enumerators, spell_declarator, spell_core, spell_suffixes, spell_parameters, spell_optional, spell_init, spell_inits, spell_initializer, spell_init_declarators, spell_decl, spell_decls, spell_label, spell_labels, spell_stmt, spell_alternative, spell_block, spell_stmts, spell_external, spell_externals}
 use Rattle.pw_tree.specs.Symbols.{Symbol, Reserved, Sign, spelled, assign_mark}
-use Rattle.pw_tree.specs.Trees.{Word, Pointer, Expr, Identifier, Number, Floating, Character, Wide, Strings, Paren, Postfix, Unary, SizeofType, Cast, Chain, Conditional, Assign, Postfixes, NoPostfix, Index, Call, Select, Step, Arguments, NoArgument, Argument, Operations, NoOperation, Operation, Specifiers, NoSpecifier, Storage, Qualified, Basic, TypedefName, RecordTag, Record, EnumTag, Enum, Members, NoMember, Member, MemberDeclarators, NoMemberDeclarator, PlainMember, BitField, Padding, Enumerators, NoEnumerator, PlainEnumerator, ValuedEnumerator, Declarator, Declaring, Core, Absent, Name, Enclosed, Suffixes, NoSuffix, Array, OpenArray, Prototype, Variadic, Identifiers, Parameters, NoParameter, Parameter, Init, Value, Braces, Inits, NoInit, Listed, Initializer, InitDeclarator, Decl, Label, CaseLabel, DefaultLabel, NameLabel, Stmt, Compound, Expression, Empty, Labeled, If, Switch, While, Do, For, Goto, Continue, Break, Return, Alternative, NoElse, Otherwise, ElseIf, Block, Braced, Stmts, NoStmt, Next, External, Definition, Declaration, Module}
+use Rattle.pw_tree.specs.Trees.{Word, Pointer, Expr, Identifier, Number, Floating, Character, Wide, Strings, Paren, Postfix, Unary, SizeofType, Cast, Chain, Conditional, Assign, Postfixes, NoPostfix, Index, Call, Select, Step, Arguments, NoArgument, Argument, Operations, NoOperation, Operation, Specifiers, NoSpecifier, Storage, Qualified, Basic, TypedefName, RecordTag, Record, EnumTag, Enum, Members, NoMember, Member, MemberDeclarators, NoMemberDeclarator, PlainMember, BitField, Padding, Enumerators, NoEnumerator, PlainEnumerator, ValuedEnumerator, Declarator, Declaring, Core, Absent, Name, Enclosed, Suffixes, NoSuffix, Array, OpenArray, Prototype, Variadic, Identifiers, Parameters, NoParameter, Parameter, Init, Value, Braces, Inits, NoInit, Listed, Initializer, InitDeclarator, Decl, Label, CaseLabel, DefaultLabel, NameLabel, Stmt, Compound, Expression, Empty, Labeled, If, Switch, While, Do, For, Goto, Return, Alternative, NoElse, Otherwise, ElseIf, Block, Braced, Stmts, NoStmt, Next, External, Definition, Declaration, Module}
 use Rattle.pw_tree.specs.Words.{AreIdentifiers, AreStrings, IsTag, WordsSpell, WordsSpellPostfixes, WordsSpellArguments, WordsSpellOperations, WordsSpellSpecifiers, WordsSpellMembers, WordsSpellMemberDeclarators, WordsSpellEnumerators, WordsSpellDeclarator, WordsSpellCore, WordsSpellSuffixes, WordsSpellParameters, WordsSpellOptional, WordsSpellInit, WordsSpellInits, WordsSpellInitializer, WordsSpellInitDeclarators, WordsSpellDecl, WordsSpellDecls, WordsSpellLabel, WordsSpellLabels, WordsSpellStmt, WordsSpellAlternative, WordsSpellBlock, WordsSpellStmts, WordsSpellExternal, WordsSpellExternals, WordsSpellModule}
 use Rattle.pw_tree.specs.declared.expr.Qualifier.{Qualifier}
 use Rattle.pw_token.specs.declared.symbol.Keyword.TheVariants as k
@@ -344,11 +344,10 @@ mutual
       let r4 = words-stmt s z r3.1.1 in
       ((r1.0, r2.0, r3.0, r4.0), r4.1)
   words-stmt (Goto n w) z h = (h.1.0, h.1.1.1)
-  words-stmt (Continue n) z h = (tt, h.1.1)
-  words-stmt (Break n) z h = (tt, h.1.1)
   words-stmt (Return n e) z h =
       let r1 = words-optional e (Sign m.Semicolon ∷ z) h.1 in
       (r1.0, r1.1.1)
+  words-stmt _ z h = (tt, h.1.1)
 
   words-alternative : (x : Alternative) (z : List Symbol) → AllSpell (spell_alternative x z) → WordsSpellAlternative x × AllSpell z
   words-alternative NoElse z h = (tt, h)

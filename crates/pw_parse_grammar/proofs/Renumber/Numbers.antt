@@ -1,7 +1,7 @@
 -- The nodes of a tree that was numbered have the numbers of their tokens.
 use Rattle.std.proofs.Common.{ℕ, Bool, true, false, List, [], ◌∷◌, Option, Some, None, refl}
 use Rattle.pw_tree.specs.Numbering.{NumberedIdentifiers, NumberedStrings, NumberedTag, NumberedPointers, Numbered, NumberedPostfixes, NumberedArguments, NumberedOperations, NumberedSpecifiers, NumberedMembers, NumberedMemberDeclarators, NumberedEnumerators, NumberedDeclarator, NumberedCore, NumberedSuffixes, NumberedParameters, NumberedOptional, NumberedInit, NumberedInits, NumberedInitializer, NumberedInitDeclarators, NumberedDecl, NumberedDecls, NumberedLabel, NumberedLabels, NumberedStmt, NumberedAlternative, NumberedBlock, NumberedStmts, NumberedFunction, NumberedExternal, NumberedExternals, NumberedModule}
-use Rattle.pw_tree.specs.Trees.{Word, Pointer, Expr, Identifier, Number, Floating, Character, Wide, Strings, Paren, Postfix, Unary, SizeofType, Cast, Chain, Conditional, Assign, Postfixes, NoPostfix, Index, Call, Select, Step, Arguments, NoArgument, Argument, Operations, NoOperation, Operation, Specifiers, NoSpecifier, Storage, Qualified, Basic, TypedefName, RecordTag, Record, EnumTag, Enum, Members, NoMember, Member, MemberDeclarators, NoMemberDeclarator, PlainMember, BitField, Padding, Enumerators, NoEnumerator, PlainEnumerator, ValuedEnumerator, Declarator, Declaring, Core, Absent, Name, Enclosed, Suffixes, NoSuffix, Array, OpenArray, Prototype, Variadic, Identifiers, Parameters, NoParameter, Parameter, Init, Value, Braces, Inits, NoInit, Listed, Initializer, InitDeclarator, Decl, Label, CaseLabel, DefaultLabel, NameLabel, Stmt, Compound, Expression, Empty, Labeled, If, Switch, While, Do, For, Goto, Continue, Break, Return, Alternative, NoElse, Otherwise, ElseIf, Block, Braced, Stmts, NoStmt, Next, Function, External, Definition, Declaration, Module}
+use Rattle.pw_tree.specs.Trees.{Word, Pointer, Expr, Identifier, Number, Floating, Character, Wide, Strings, Paren, Postfix, Unary, SizeofType, Cast, Chain, Conditional, Assign, Postfixes, NoPostfix, Index, Call, Select, Step, Arguments, NoArgument, Argument, Operations, NoOperation, Operation, Specifiers, NoSpecifier, Storage, Qualified, Basic, TypedefName, RecordTag, Record, EnumTag, Enum, Members, NoMember, Member, MemberDeclarators, NoMemberDeclarator, PlainMember, BitField, Padding, Enumerators, NoEnumerator, PlainEnumerator, ValuedEnumerator, Declarator, Declaring, Core, Absent, Name, Enclosed, Suffixes, NoSuffix, Array, OpenArray, Prototype, Variadic, Identifiers, Parameters, NoParameter, Parameter, Init, Value, Braces, Inits, NoInit, Listed, Initializer, InitDeclarator, Decl, Label, CaseLabel, DefaultLabel, NameLabel, Stmt, Compound, Expression, Labeled, If, Switch, While, Do, For, Goto, Return, Alternative, NoElse, Otherwise, ElseIf, Block, Braced, Stmts, NoStmt, Next, Function, External, Definition, Declaration, Module}
 use Rattle.pw_parse_grammar.specs.TokenNumbers.{number_identifiers, number_strings, number_tag, number_pointers, number_expr, number_postfixes, number_arguments, number_operations, number_specifiers, number_members, number_member_declarators, number_enumerators, number_declarator, number_core, number_suffixes, number_parameters, number_optional, number_init, number_inits, number_initializer, number_init_declarators, number_decl, number_decls, number_label, number_labels, number_stmt, number_alternative, number_block, number_stmts, number_function, number_external, number_externals, number_module}
 
 -- ---- lists of words
@@ -153,7 +153,6 @@ mutual
   pub numbered-stmt : (x : Stmt) (n : ℕ) → NumberedStmt n (number_stmt n x)
   numbered-stmt (Compound b) start = numbered-block b _
   numbered-stmt (Expression e) start = numbered-expr e _
-  numbered-stmt (Empty t) start = refl
   numbered-stmt (Labeled ls s) start = (numbered-labels ls _, numbered-stmt s _)
   numbered-stmt (If t c s a) start = (refl, numbered-expr c _, numbered-stmt s _, numbered-alternative a _)
   numbered-stmt (Switch t e s) start = (refl, numbered-expr e _, numbered-stmt s _)
@@ -161,9 +160,8 @@ mutual
   numbered-stmt (Do t s e) start = (refl, numbered-stmt s _, numbered-expr e _)
   numbered-stmt (For t a b c s) start = (refl, numbered-optional a _, numbered-optional b _, numbered-optional c _, numbered-stmt s _)
   numbered-stmt (Goto t w) start = (refl, refl)
-  numbered-stmt (Continue t) start = refl
-  numbered-stmt (Break t) start = refl
   numbered-stmt (Return t e) start = (refl, numbered-optional e _)
+  numbered-stmt _ start = refl
 
   pub numbered-alternative : (x : Alternative) (n : ℕ) → NumberedAlternative n (number_alternative n x)
   numbered-alternative NoElse start = tt

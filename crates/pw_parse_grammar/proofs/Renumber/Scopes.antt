@@ -1,7 +1,7 @@
 -- A tree with the numbers of its tokens declares what it did before.
 use Rattle.std.proofs.Common.{◌≡◌, ℕ, Bool, false, ◌||◌, List, [], ◌∷◌, Option, Some, None, refl, ap, ◌∙◌}
 use Rattle.pw_tree.specs.Scopes.{Env, declare_plain, declare_plains, is_typedef_storage, has_typedef, has_type, name_of, name_in, declare_name, declare, behind_name, behind_core, enter_first, enter, after_parameter, after_name, after_expr, after_postfixes, after_arguments, after_operations, after_specifiers, after_members, after_member_declarators, after_enumerators, after_declarator, after_core, after_suffixes, after_parameters, after_optional, after_init, after_inits, after_initializer, after_init_declarators, after_decl, after_decls, after_label, after_labels, after_stmt, after_alternative, after_external}
-use Rattle.pw_tree.specs.Trees.{Word, Expr, Identifier, Number, Floating, Character, Wide, Strings, Paren, Postfix, Unary, SizeofType, Cast, Chain, Conditional, Assign, Postfixes, NoPostfix, Index, Call, Select, Step, Arguments, NoArgument, Argument, Operations, NoOperation, Operation, Specifiers, NoSpecifier, Storage, Qualified, Basic, TypedefName, RecordTag, Record, EnumTag, Enum, Members, NoMember, Member, MemberDeclarators, NoMemberDeclarator, PlainMember, BitField, Padding, Enumerators, NoEnumerator, PlainEnumerator, ValuedEnumerator, Declarator, Declaring, Core, Absent, Name, Enclosed, Suffixes, NoSuffix, Array, OpenArray, Prototype, Variadic, Identifiers, Parameters, NoParameter, Parameter, Init, Value, Braces, Inits, NoInit, Listed, Initializer, InitDeclarator, Decl, Label, CaseLabel, DefaultLabel, NameLabel, Stmt, Compound, Expression, Empty, Labeled, If, Switch, While, Do, For, Goto, Continue, Break, Return, Alternative, NoElse, Otherwise, ElseIf, External, Definition, Declaration}
+use Rattle.pw_tree.specs.Trees.{Word, Expr, Identifier, Number, Floating, Character, Wide, Strings, Paren, Postfix, Unary, SizeofType, Cast, Chain, Conditional, Assign, Postfixes, NoPostfix, Index, Call, Select, Step, Arguments, NoArgument, Argument, Operations, NoOperation, Operation, Specifiers, NoSpecifier, Storage, Qualified, Basic, TypedefName, RecordTag, Record, EnumTag, Enum, Members, NoMember, Member, MemberDeclarators, NoMemberDeclarator, PlainMember, BitField, Padding, Enumerators, NoEnumerator, PlainEnumerator, ValuedEnumerator, Declarator, Declaring, Core, Absent, Name, Enclosed, Suffixes, NoSuffix, Array, OpenArray, Prototype, Variadic, Identifiers, Parameters, NoParameter, Parameter, Init, Value, Braces, Inits, NoInit, Listed, Initializer, InitDeclarator, Decl, Label, CaseLabel, DefaultLabel, NameLabel, Stmt, Expression, Labeled, If, Switch, While, Do, For, Return, Alternative, NoElse, Otherwise, ElseIf, External, Definition, Declaration}
 use Rattle.pw_parse_grammar.specs.TokenNumbers.{number_identifiers, number_expr, number_postfixes, number_arguments, number_operations, number_specifiers, number_members, number_member_declarators, number_enumerators, number_declarator, number_core, number_suffixes, number_parameters, number_optional, number_init, number_inits, number_initializer, number_init_declarators, number_decl, number_decls, number_label, number_labels, number_stmt, number_alternative, number_external}
 
 -- ---- specifiers
@@ -186,19 +186,15 @@ mutual
   unfolding after_stmt number_stmt
 
   pub declares-stmt : (x : Stmt) (n : ℕ) {env env2 : Env} → env ≡ env2 → after_stmt env x ≡ after_stmt env2 (number_stmt n x)
-  declares-stmt (Compound b) start same = same
   declares-stmt (Expression e) start same = declares-expr e _ same
-  declares-stmt (Empty n) start same = same
   declares-stmt (Labeled ls s) start same = declares-stmt s _ (declares-labels ls _ same)
   declares-stmt (If n c s a) start same = declares-alternative a _ (declares-stmt s _ (declares-expr c _ same))
   declares-stmt (Switch n e s) start same = declares-stmt s _ (declares-expr e _ same)
   declares-stmt (While n e s) start same = declares-stmt s _ (declares-expr e _ same)
   declares-stmt (Do n s e) start same = declares-expr e _ (declares-stmt s _ same)
   declares-stmt (For n a b c s) start same = declares-stmt s _ (declares-optional c _ (declares-optional b _ (declares-optional a _ same)))
-  declares-stmt (Goto n w) start same = same
-  declares-stmt (Continue n) start same = same
-  declares-stmt (Break n) start same = same
   declares-stmt (Return n e) start same = declares-optional e _ same
+  declares-stmt _ start same = same
 
   pub declares-alternative : (x : Alternative) (n : ℕ) {env env2 : Env} → env ≡ env2 → after_alternative env x ≡ after_alternative env2 (number_alternative n x)
   declares-alternative NoElse start same = same

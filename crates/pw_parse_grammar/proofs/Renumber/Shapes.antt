@@ -2,7 +2,7 @@
 use Rattle.std.proofs.Common.{◌≡◌, ℕ, ◌<◌, Bool, true, false, List, [], ◌∷◌, refl, sym, ◌∙◌, subst}
 use Rattle.pw_tree.specs.Levels.{level, chain_level}
 use Rattle.pw_tree.specs.Scopes.{Env}
-use Rattle.pw_tree.specs.Trees.{Word, Expr, Identifier, Number, Floating, Character, Wide, Strings, Paren, Postfix, Unary, SizeofType, Cast, Chain, Conditional, Assign, Postfixes, NoPostfix, Index, Call, Select, Step, Operations, NoOperation, Operation, Specifiers, NoSpecifier, Storage, Qualified, Basic, TypedefName, RecordTag, Record, EnumTag, Enum, Members, NoMember, Member, MemberDeclarators, NoMemberDeclarator, PlainMember, BitField, Padding, Enumerators, NoEnumerator, PlainEnumerator, ValuedEnumerator, Declarator, Declaring, Core, Absent, Name, Enclosed, NoSuffix, Array, OpenArray, Prototype, Variadic, Identifiers, Parameters, NoParameter, Parameter, Inits, NoInit, Listed, Label, Stmt, Compound, Expression, Empty, Labeled, If, Switch, While, Do, For, Goto, Continue, Break, Return, Alternative, NoElse, Otherwise, ElseIf, External}
+use Rattle.pw_tree.specs.Trees.{Word, Expr, Identifier, Number, Floating, Character, Wide, Strings, Paren, Postfix, Unary, SizeofType, Cast, Chain, Conditional, Assign, Postfixes, NoPostfix, Index, Call, Select, Step, Operations, NoOperation, Operation, Specifiers, NoSpecifier, Storage, Qualified, Basic, TypedefName, RecordTag, Record, EnumTag, Enum, Members, NoMember, Member, MemberDeclarators, NoMemberDeclarator, PlainMember, BitField, Padding, Enumerators, NoEnumerator, PlainEnumerator, ValuedEnumerator, Declarator, Declaring, Core, Absent, Name, Enclosed, NoSuffix, Array, OpenArray, Prototype, Variadic, Identifiers, Parameters, NoParameter, Parameter, Inits, NoInit, Listed, Label, Stmt, Labeled, If, Switch, While, For, Alternative, NoElse, Otherwise, ElseIf, External}
 use Rattle.pw_tree.specs.WellFormed.{Place, Named, Nameless, Either, is_named, has_name, NotEmpty, HasPostfix, HasSpecifier, HasMember, HasMemberDeclarator, HasEnumerator, HasParameter, HasInit, NotTypedef, NoneTypedef, MayDeclare, NoStorage, IsSomething, begins_with_typedef, MayEnclose, NotLabeled, NotIf, ends_open, alternative_ends_open, MayPrecede}
 use Rattle.pw_parse_grammar.specs.TokenNumbers.{number_identifiers, number_strings, number_expr, number_postfixes, number_operations, number_specifiers, number_members, number_member_declarators, number_enumerators, number_declarator, number_core, number_parameters, number_init, number_inits, number_labels, number_stmt, number_alternative, number_externals}
 
@@ -159,53 +159,24 @@ may-declare w {env = env} {typed2 = typed2} same typing h = subst (λ v. MayDecl
 
 pub not-labeled : (x : Stmt) (n : ℕ) → NotLabeled x → NotLabeled (number_stmt n x)
 unfolding number_stmt
-not-labeled (Compound b) start h = tt
-not-labeled (Expression e) start h = tt
-not-labeled (Empty n) start h = tt
 not-labeled (Labeled ls s) start h = h
-not-labeled (If n c s a) start h = tt
-not-labeled (Switch n e s) start h = tt
-not-labeled (While n e s) start h = tt
-not-labeled (Do n s e) start h = tt
-not-labeled (For n a b c s) start h = tt
-not-labeled (Goto n w) start h = tt
-not-labeled (Continue n) start h = tt
-not-labeled (Break n) start h = tt
-not-labeled (Return n e) start h = tt
+not-labeled _ start h = tt
 
 pub not-if : (x : Stmt) (n : ℕ) → NotIf x → NotIf (number_stmt n x)
 unfolding number_stmt
-not-if (Compound b) start h = tt
-not-if (Expression e) start h = tt
-not-if (Empty n) start h = tt
-not-if (Labeled ls s) start h = tt
 not-if (If n c s a) start h = h
-not-if (Switch n e s) start h = tt
-not-if (While n e s) start h = tt
-not-if (Do n s e) start h = tt
-not-if (For n a b c s) start h = tt
-not-if (Goto n w) start h = tt
-not-if (Continue n) start h = tt
-not-if (Break n) start h = tt
-not-if (Return n e) start h = tt
+not-if _ start h = tt
 
 mutual
   unfolding number_stmt
 
   keeps-open : (x : Stmt) (n : ℕ) → ends_open x ≡ ends_open (number_stmt n x)
-  keeps-open (Compound b) start = refl
-  keeps-open (Expression e) start = refl
-  keeps-open (Empty n) start = refl
   keeps-open (Labeled ls s) start = keeps-open s _
   keeps-open (If n c s a) start = keeps-open_alternative a _
   keeps-open (Switch n e s) start = keeps-open s _
   keeps-open (While n e s) start = keeps-open s _
-  keeps-open (Do n s e) start = refl
   keeps-open (For n a b c s) start = keeps-open s _
-  keeps-open (Goto n w) start = refl
-  keeps-open (Continue n) start = refl
-  keeps-open (Break n) start = refl
-  keeps-open (Return n e) start = refl
+  keeps-open _ start = refl
 
   keeps-open_alternative : (x : Alternative) (n : ℕ) → alternative_ends_open x ≡ alternative_ends_open (number_alternative n x)
   keeps-open_alternative NoElse start = refl

@@ -2,7 +2,7 @@
 use Rattle.std.proofs.Common.{◌≡◌, ℕ, ◌≤◌, Bool, false, List, [], ◌∷◌, Option, Some, None, refl, subst}
 use Rattle.pw_tree.specs.Levels.{conditional, assignment}
 use Rattle.pw_tree.specs.Scopes.{Env}
-use Rattle.pw_tree.specs.Trees.{Specifiers, Init, Value, Braces, Inits, NoInit, Listed, Initializer, InitDeclarator, Decl, Label, CaseLabel, DefaultLabel, NameLabel, Stmt, Compound, Expression, Empty, Labeled, If, Switch, While, Do, For, Goto, Continue, Break, Return, Alternative, NoElse, Otherwise, ElseIf, Block, Braced, Stmts, NoStmt, Next, Function, External, Definition, Declaration, Module}
+use Rattle.pw_tree.specs.Trees.{Specifiers, Init, Value, Braces, Inits, NoInit, Listed, Initializer, InitDeclarator, Decl, Label, CaseLabel, DefaultLabel, NameLabel, Stmt, Compound, Expression, Labeled, If, Switch, While, Do, For, Return, Alternative, NoElse, Otherwise, ElseIf, Block, Braced, Stmts, NoStmt, Next, Function, External, Definition, Declaration, Module}
 use Rattle.pw_tree.specs.WellFormed.{Named, WellFormedInit, WellFormedInits, WellFormedInitializer, WellFormedInitDeclarators, WellFormedDecl, WellFormedDecls, WellFormedLabel, WellFormedLabels, WellFormedStmt, WellFormedAlternative, WellFormedBlock, WellFormedStmts, WellFormedFunction, WellFormedExternal, WellFormedExternals, WellFormedModule}
 use Rattle.pw_parse_grammar.specs.TokenNumbers.{number_specifiers, number_init, number_inits, number_initializer, number_init_declarators, number_decl, number_decls, number_label, number_labels, number_stmt, number_alternative, number_block, number_stmts, number_external, number_externals, number_function, number_module}
 use Rattle.pw_parse_grammar.proofs.Renumber.Scopes.{keeps-type, declares-name, declares-entered, declares-expr, declares-specifiers, declares-optional, declares-init, declares-initializer, declares-decl, declares-decls, declares-label, declares-labels, declares-stmt, declares-external}
@@ -62,17 +62,14 @@ mutual
   pub well-stmt : (x : Stmt) (n : ℕ) {env env2 : Env} → env ≡ env2 → WellFormedStmt env x → WellFormedStmt env2 (number_stmt n x)
   well-stmt (Compound b) start same h = well-block b _ same h
   well-stmt (Expression e) start same h = well-expr e _ same h
-  well-stmt (Empty n) start same h = tt
   well-stmt (Labeled ls s) start same h = (has-label ls _ h.0, well-labels ls _ same h.1, not-labeled s _ h.2, well-stmt s _ (declares-labels ls _ same) h.3)
   well-stmt (If n c s a) start same h = (well-expr c _ same h.0, well-stmt s _ (declares-expr c _ same) h.1, may-precede s a _ _ h.2, well-alternative a _ (declares-stmt s _ (declares-expr c _ same)) h.3)
   well-stmt (Switch n e s) start same h = (well-expr e _ same h.0, well-stmt s _ (declares-expr e _ same) h.1)
   well-stmt (While n e s) start same h = (well-expr e _ same h.0, well-stmt s _ (declares-expr e _ same) h.1)
   well-stmt (Do n s e) start same h = (well-stmt s _ same h.0, well-expr e _ (declares-stmt s _ same) h.1)
   well-stmt (For n a b c s) start same h = (well-optional a _ same h.0, well-optional b _ (declares-optional a _ same) h.1, well-optional c _ (declares-optional b _ (declares-optional a _ same)) h.2, well-stmt s _ (declares-optional c _ (declares-optional b _ (declares-optional a _ same))) h.3)
-  well-stmt (Goto n w) start same h = tt
-  well-stmt (Continue n) start same h = tt
-  well-stmt (Break n) start same h = tt
   well-stmt (Return n e) start same h = well-optional e _ same h
+  well-stmt _ start same h = tt
 
   pub well-alternative : (x : Alternative) (n : ℕ) {env env2 : Env} → env ≡ env2 → WellFormedAlternative env x → WellFormedAlternative env2 (number_alternative n x)
   well-alternative NoElse start same h = tt

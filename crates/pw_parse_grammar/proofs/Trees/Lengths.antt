@@ -2,7 +2,7 @@
 use Rattle.std.proofs.Common.{◌≡◌, ◌+◌, Bool, true, false, List, [], ◌∷◌, length, Option, Some, None, arith}
 use Rattle.pw_tree.specs.Spelling.{identifier, separated, trailed, spell_identifiers, spell_strings, spell_tag, spell_qualifiers, spell_pointers, spell_expr, spell_postfixes, spell_arguments, spell_operations, spell_specifiers, spell_members, spell_member_declarators, spell_enumerators, spell_declarator, spell_core, spell_suffixes, spell_parameters, spell_optional, spell_init, spell_inits, spell_initializer, spell_init_declarators, spell_decl, spell_decls, spell_label, spell_labels, spell_stmt, spell_alternative, spell_block, spell_stmts, spell_external, spell_externals}
 use Rattle.pw_tree.specs.Symbols.{Symbol, Reserved, Sign, assign_mark}
-use Rattle.pw_tree.specs.Trees.{Word, Pointer, Expr, Identifier, Number, Floating, Character, Wide, Strings, Paren, Postfix, Unary, SizeofType, Cast, Chain, Conditional, Assign, Postfixes, NoPostfix, Index, Call, Select, Step, Arguments, NoArgument, Argument, Operations, NoOperation, Operation, Specifiers, NoSpecifier, Storage, Qualified, Basic, TypedefName, RecordTag, Record, EnumTag, Enum, Members, NoMember, Member, MemberDeclarators, NoMemberDeclarator, PlainMember, BitField, Padding, Enumerators, NoEnumerator, PlainEnumerator, ValuedEnumerator, Declarator, Declaring, Core, Absent, Name, Enclosed, Suffixes, NoSuffix, Array, OpenArray, Prototype, Variadic, Identifiers, Parameters, NoParameter, Parameter, Init, Value, Braces, Inits, NoInit, Listed, Initializer, InitDeclarator, Decl, Label, CaseLabel, DefaultLabel, NameLabel, Stmt, Compound, Expression, Empty, Labeled, If, Switch, While, Do, For, Goto, Continue, Break, Return, Alternative, NoElse, Otherwise, ElseIf, Block, Braced, Stmts, NoStmt, Next, External, Definition, Declaration}
+use Rattle.pw_tree.specs.Trees.{Word, Pointer, Expr, Identifier, Number, Floating, Character, Wide, Strings, Paren, Postfix, Unary, SizeofType, Cast, Chain, Conditional, Assign, Postfixes, NoPostfix, Index, Call, Select, Step, Arguments, NoArgument, Argument, Operations, NoOperation, Operation, Specifiers, NoSpecifier, Storage, Qualified, Basic, TypedefName, RecordTag, Record, EnumTag, Enum, Members, NoMember, Member, MemberDeclarators, NoMemberDeclarator, PlainMember, BitField, Padding, Enumerators, NoEnumerator, PlainEnumerator, ValuedEnumerator, Declarator, Declaring, Core, Absent, Name, Enclosed, Suffixes, NoSuffix, Array, OpenArray, Prototype, Variadic, Identifiers, Parameters, NoParameter, Parameter, Init, Value, Braces, Inits, NoInit, Listed, Initializer, InitDeclarator, Decl, Label, CaseLabel, DefaultLabel, NameLabel, Stmt, Compound, Expression, Labeled, If, Switch, While, Do, For, Return, Alternative, NoElse, Otherwise, ElseIf, Block, Braced, Stmts, NoStmt, Next, External, Definition, Declaration}
 use Rattle.pw_tree.specs.declared.expr.Qualifier.{Qualifier}
 use Rattle.pw_token.specs.declared.symbol.Keyword.TheVariants as k
 use Rattle.pw_token.specs.declared.symbol.Mark.TheVariants as m
@@ -160,17 +160,14 @@ mutual
   pub length-stmt : (x : Stmt) (z : List Symbol) → length (spell_stmt x z) ≡ length (spell_stmt x []) + length z
   length-stmt (Compound b) z = omega (arith, length-block b z)
   length-stmt (Expression e) z = omega (arith, length-expr e (Sign m.Semicolon ∷ z), length-expr e (Sign m.Semicolon ∷ []))
-  length-stmt (Empty n) z = omega arith
   length-stmt (Labeled ls s) z = omega (arith, length-labels ls (spell_stmt s z), length-labels ls (spell_stmt s []), length-stmt s z)
   length-stmt (If n c s a) z = omega (arith, length-expr c (Sign m.CloseParen ∷ spell_stmt s (spell_alternative a z)), length-expr c (Sign m.CloseParen ∷ spell_stmt s (spell_alternative a [])), length-stmt s (spell_alternative a z), length-stmt s (spell_alternative a []), length-alternative a z)
   length-stmt (Switch n e s) z = omega (arith, length-expr e (Sign m.CloseParen ∷ spell_stmt s z), length-expr e (Sign m.CloseParen ∷ spell_stmt s []), length-stmt s z)
   length-stmt (While n e s) z = omega (arith, length-expr e (Sign m.CloseParen ∷ spell_stmt s z), length-expr e (Sign m.CloseParen ∷ spell_stmt s []), length-stmt s z)
   length-stmt (Do n s e) z = omega (arith, length-stmt s (Reserved k.While ∷ Sign m.OpenParen ∷ spell_expr e (Sign m.CloseParen ∷ Sign m.Semicolon ∷ z)), length-stmt s (Reserved k.While ∷ Sign m.OpenParen ∷ spell_expr e (Sign m.CloseParen ∷ Sign m.Semicolon ∷ [])), length-expr e (Sign m.CloseParen ∷ Sign m.Semicolon ∷ z), length-expr e (Sign m.CloseParen ∷ Sign m.Semicolon ∷ []))
   length-stmt (For n a b c s) z = omega (arith, length-optional a (Sign m.Semicolon ∷ spell_optional b (Sign m.Semicolon ∷ spell_optional c (Sign m.CloseParen ∷ spell_stmt s z))), length-optional a (Sign m.Semicolon ∷ spell_optional b (Sign m.Semicolon ∷ spell_optional c (Sign m.CloseParen ∷ spell_stmt s []))), length-optional b (Sign m.Semicolon ∷ spell_optional c (Sign m.CloseParen ∷ spell_stmt s z)), length-optional b (Sign m.Semicolon ∷ spell_optional c (Sign m.CloseParen ∷ spell_stmt s [])), length-optional c (Sign m.CloseParen ∷ spell_stmt s z), length-optional c (Sign m.CloseParen ∷ spell_stmt s []), length-stmt s z)
-  length-stmt (Goto n w) z = omega arith
-  length-stmt (Continue n) z = omega arith
-  length-stmt (Break n) z = omega arith
   length-stmt (Return n e) z = omega (arith, length-optional e (Sign m.Semicolon ∷ z), length-optional e (Sign m.Semicolon ∷ []))
+  length-stmt _ z = omega arith
 
   pub length-alternative : (x : Alternative) (z : List Symbol) → length (spell_alternative x z) ≡ length (spell_alternative x []) + length z
   length-alternative NoElse z = omega arith

@@ -1,7 +1,7 @@
 -- What a tree declares does not hang on the names before it.
 use Rattle.std.proofs.Common.{◌≡◌, Bool, false, List, [], ◌∷◌, ◌++◌, Option, Some, None, refl, ap, ◌∙◌}
 use Rattle.pw_tree.specs.Scopes.{Env, declare_plain, declare_plains, declare_name, declare, has_typedef, name_of, enter_first, after_expr, after_postfixes, after_arguments, after_operations, after_specifiers, after_members, after_member_declarators, after_enumerators, after_declarator, after_core, after_suffixes, after_parameter, after_parameters, after_optional, after_init, after_inits, after_initializer, after_name, after_init_declarators, after_decl, after_decls, after_label, after_labels, after_stmt, after_alternative, after_external}
-use Rattle.pw_tree.specs.Trees.{Word, Expr, Identifier, Number, Floating, Character, Wide, Strings, Paren, Postfix, Unary, SizeofType, Cast, Chain, Conditional, Assign, Postfixes, NoPostfix, Index, Call, Select, Step, Arguments, NoArgument, Argument, Operations, NoOperation, Operation, Specifiers, NoSpecifier, Storage, Qualified, Basic, TypedefName, RecordTag, Record, EnumTag, Enum, Members, NoMember, Member, MemberDeclarators, NoMemberDeclarator, PlainMember, BitField, Padding, Enumerators, NoEnumerator, PlainEnumerator, ValuedEnumerator, Declarator, Declaring, Core, Absent, Name, Enclosed, Suffixes, NoSuffix, Array, OpenArray, Prototype, Variadic, Identifiers, Parameters, NoParameter, Parameter, Init, Value, Braces, Inits, NoInit, Listed, Initializer, InitDeclarator, Decl, Label, CaseLabel, DefaultLabel, NameLabel, Stmt, Compound, Expression, Empty, Labeled, If, Switch, While, Do, For, Goto, Continue, Break, Return, Alternative, NoElse, Otherwise, ElseIf, External, Definition, Declaration}
+use Rattle.pw_tree.specs.Trees.{Word, Expr, Identifier, Number, Floating, Character, Wide, Strings, Paren, Postfix, Unary, SizeofType, Cast, Chain, Conditional, Assign, Postfixes, NoPostfix, Index, Call, Select, Step, Arguments, NoArgument, Argument, Operations, NoOperation, Operation, Specifiers, NoSpecifier, Storage, Qualified, Basic, TypedefName, RecordTag, Record, EnumTag, Enum, Members, NoMember, Member, MemberDeclarators, NoMemberDeclarator, PlainMember, BitField, Padding, Enumerators, NoEnumerator, PlainEnumerator, ValuedEnumerator, Declarator, Declaring, Core, Absent, Name, Enclosed, Suffixes, NoSuffix, Array, OpenArray, Prototype, Variadic, Identifiers, Parameters, NoParameter, Parameter, Init, Value, Braces, Inits, NoInit, Listed, Initializer, InitDeclarator, Decl, Label, CaseLabel, DefaultLabel, NameLabel, Stmt, Expression, Labeled, If, Switch, While, Do, For, Return, Alternative, NoElse, Otherwise, ElseIf, External, Definition, Declaration}
 
 pub spreads-declare_plain : (more env : Env) (x : Word) → declare_plain x (more ++ env) ≡ declare_plain x more ++ env
 spreads-declare_plain more env w = refl
@@ -146,19 +146,15 @@ mutual
   unfolding after_stmt
 
   pub spreads-stmt : (more env : Env) (x : Stmt) → after_stmt (more ++ env) x ≡ after_stmt more x ++ env
-  spreads-stmt more env (Compound b) = refl
   spreads-stmt more env (Expression e) = spreads-expr more env e
-  spreads-stmt more env (Empty n) = refl
   spreads-stmt more env (Labeled ls s) = ap (λ v. after_stmt v s) (spreads-labels more env ls) ∙ spreads-stmt (after_labels more ls) env s
   spreads-stmt more env (If n c s a) = ap (λ v. after_alternative (after_stmt v s) a) (spreads-expr more env c) ∙ ap (λ v. after_alternative v a) (spreads-stmt (after_expr more c) env s) ∙ spreads-alternative (after_stmt (after_expr more c) s) env a
   spreads-stmt more env (Switch n e s) = ap (λ v. after_stmt v s) (spreads-expr more env e) ∙ spreads-stmt (after_expr more e) env s
   spreads-stmt more env (While n e s) = ap (λ v. after_stmt v s) (spreads-expr more env e) ∙ spreads-stmt (after_expr more e) env s
   spreads-stmt more env (Do n s e) = ap (λ v. after_expr v e) (spreads-stmt more env s) ∙ spreads-expr (after_stmt more s) env e
   spreads-stmt more env (For n a b c s) = ap (λ v. after_stmt (after_optional (after_optional v b) c) s) (spreads-optional more env a) ∙ ap (λ v. after_stmt (after_optional v c) s) (spreads-optional (after_optional more a) env b) ∙ ap (λ v. after_stmt v s) (spreads-optional (after_optional (after_optional more a) b) env c) ∙ spreads-stmt (after_optional (after_optional (after_optional more a) b) c) env s
-  spreads-stmt more env (Goto n w) = refl
-  spreads-stmt more env (Continue n) = refl
-  spreads-stmt more env (Break n) = refl
   spreads-stmt more env (Return n e) = spreads-optional more env e
+  spreads-stmt more env _ = refl
 
   pub spreads-alternative : (more env : Env) (x : Alternative) → after_alternative (more ++ env) x ≡ after_alternative more x ++ env
   spreads-alternative more env NoElse = refl
