@@ -32,8 +32,9 @@ use Rattle.pw_build_files.specs.Programs.{BuildsFiles, FaultBuilds}
 use Rattle.pw_build_files.specs.Outcomes.{fault_answer}
 use Rattle.pw_build_opts.specs.declared.opts.Opts.{Opts}
 use Rattle.pw_build_opts.specs.declared.opts.RunOpts.{RunOpts}
-use Rattle.pw_commands_interp.specs.Interpreting.{AreTyped, DidOf, DidPlain, InterpOf, PlainEffect, InterpOver, RanAs, RepliesTo, RunsLinked, TellsToken, UnlessMemory, frames_of, run_effect}
-use Rattle.pw_commands_interp.proofs.RunLemmas.{appends_none, if_some, untouched}
+use Rattle.pw_interp_runs.specs.Running.{AreTyped, RanAs, RepliesTo, RunsLinked, TellsToken, UnlessMemory, frames_of}
+use Rattle.pw_commands_interp.specs.Interpreting.{DidOf, DidPlain, InterpOf, PlainEffect, InterpOver, run_effect}
+use Rattle.pw_interp_runs.proofs.RunLemmas.{appends_none, if_some, untouched}
 use Rattle.pw_commands_interp.proofs.LineLemmas.{of_reply}
 
 -- the law on builds

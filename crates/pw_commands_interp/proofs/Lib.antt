@@ -1,6 +1,3 @@
-mod RunLemmas
 mod BuildLemmas
 mod LineLemmas
-mod TypedLemmas
-mod FrameLemmas
 pub mod ToldLemmas

@@ -15,8 +15,34 @@ use Rattle.pw_build_files.specs.FromBuild.BuildFault.TheVariants as build
 use Rattle.pw_build_files.specs.FromBuild.Phases.{IsLine, refused_line}
 use Rattle.pw_build_files.specs.Outcomes.{IsNoWant, fault_answer}
 use Rattle.pw_build_files.specs.Seen.{SeesModules}
-use Rattle.pw_commands_interp.specs.Interpreting.{IsInterpAnswer, IsRunAnswer, RepliesTo, TellsToken, run_line, told_line}
-use Rattle.pw_commands_interp.proofs.RunLemmas.{run_proper, run_store, run_streams}
+use Rattle.pw_interp_runs.specs.Running.{IsRunAnswer, RepliesTo, TellsToken, run_line}
+use Rattle.pw_commands_interp.specs.Interpreting.{IsInterpAnswer, told_line}
+
+-- ---- an answer to a run
+
+pub run_proper : (a : Answer) → IsRunAnswer a → IsInterpAnswer a
+run_proper (answer.Ended status) k = tt
+run_proper answer.StackStop k = tt
+run_proper answer.Spent k = tt
+run_proper answer.ReadFault k = tt
+run_proper answer.WriteFault k = tt
+run_proper answer.NoMemory k = tt
+run_proper (answer.Undefined operation name token) k = tt
+run_proper _ k = absurd k
+
+pub run_store : (before now : ℕ) (a : Answer) → IsRunAnswer a → now ≡ before → StoreCount before now a
+run_store before now answer.StoreFault k e = absurd k
+run_store before now _ k e = e
+
+pub run_streams : (a : Answer) (i i' o o' : Option (List ℕ)) → IsRunAnswer a → LeavesStreams a i i' o o'
+run_streams answer.Usage i i' o o' k = absurd k
+run_streams (answer.Refused name refusal) i i' o o' k = absurd k
+run_streams (answer.RefusedSource name refusal) i i' o o' k = absurd k
+run_streams (answer.Cpp fault) i i' o o' k = absurd k
+run_streams (answer.LinkRefused fault) i i' o o' k = absurd k
+run_streams (answer.BadFile name at) i i' o o' k = absurd k
+run_streams answer.StoreFault i i' o o' k = absurd k
+run_streams _ i i' o o' k = tt
 
 -- what holds of the answer to a run, and of want of memory where it is an undefined operation, holds of the reply
 pub of_reply : (P : Answer → Type 0) (sources : List Source) (a : Answer) (reply : Reply) → RepliesTo sources a reply → P a → (TellsToken a → P answer.NoMemory) → P reply.answer

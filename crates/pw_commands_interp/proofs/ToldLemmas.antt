@@ -22,9 +22,10 @@ use Rattle.pw_top_answer.specs.declared.answer.Answer.{Answer}
 use Rattle.pw_top_answer.specs.declared.answer.Answer.TheVariants.{ReadFault, WriteFault, StoreFault, NoMemory, Undefined, UndefinedSource}
 use Rattle.pw_top_answer.specs.Effects.{Effect}
 use Rattle.pw_top_answer.specs.Outcomes.{Answers, InputCount, IsLineDue, LeavesInput, LeavesStreams, OutputCount, PutsOut, StoreCount, WasReadInPart, store_answer}
-use Rattle.pw_commands_interp.specs.Interpreting.{Did, DidPlain, InterpEffect, IsInterpAnswer, IsToldEnd, PlainEffect, TellsToken, ToldAny, has_source, told_effect, told_end, told_line}
+use Rattle.pw_interp_runs.specs.Running.{TellsToken}
+use Rattle.pw_commands_interp.specs.Interpreting.{Did, DidPlain, InterpEffect, IsInterpAnswer, IsToldEnd, PlainEffect, ToldAny, has_source, told_effect, told_end, told_line}
 use Rattle.pw_commands_interp.proofs.BuildLemmas.{effect_ends}
-use Rattle.pw_commands_interp.proofs.RunLemmas.{appends_none, untouched}
+use Rattle.pw_interp_runs.proofs.RunLemmas.{appends_none, untouched}
 
 -- ---- whether there is a C source, by the names of all files
 

@@ -1,20 +1,15 @@
 //! The command `interp`.
 
-ghost use Rattle.std.specs.Prelude.{◌≡◌, ◌≤◌, ◌<◌, IfSome, List, map};
+ghost use Rattle.std.specs.Prelude.{◌≡◌, ◌≤◌, ◌<◌, IfSome, map};
 ghost use Rattle.pw_io.specs.Files.{Files, Keeps};
-ghost use Rattle.pw_cmean.specs.Worlds.{ProgramModule};
-ghost use Rattle.pw_interp.specs.Programs.{program_of};
-ghost use Rattle.pw_interp_calls.specs.Frames.{frame_among};
 ghost use Rattle.pw_db.specs.Limits.{colour_limit};
 ghost use Rattle.pw_store_modules.specs.Modules.{modules_of};
 ghost use Rattle.pw_store_modules.specs.Views.{source};
 ghost use Rattle.pw_store_texts.specs.Seen.{IsSeen};
 ghost use Rattle.pw_top_answer.specs.Outcomes.{InputCount, IsLineDue, LeavesStreams, OutputCount, StoreCount};
-ghost use Rattle.pw_build_files.specs.Outcomes.{AreOpts, HoldsImage};
-ghost use Rattle.pw_commands_interp.specs.Interpreting.{AreTyped, Did, DidOf, DidPlain, InterpOf, IsInterpAnswer, IsRunAnswer, RunsAs, RunsLinked, UnlessMemory, told_line};
+ghost use Rattle.pw_build_files.specs.Outcomes.{AreOpts};
+ghost use Rattle.pw_commands_interp.specs.Interpreting.{Did, DidOf, DidPlain, InterpOf, IsInterpAnswer, told_line};
 
-use crate::answers::{answer_of, with_line};
-use crate::programs::{Program, program_of};
 use crate::telling::told_reply;
 use pw_build_files::build_laws::modules_have_one_build;
 use pw_build_files::{
@@ -22,61 +17,14 @@ use pw_build_files::{
 };
 use pw_build_objects::Steps;
 use pw_build_opts::RunOpts;
-use pw_interp::interpret;
+use pw_interp_runs::{run_linked, with_line};
 use pw_io::{Sink, Source, Store};
 use pw_store_modules::Module;
 use pw_store_texts::files_are_seen_in_one_way;
 use pw_top_answer::{Answer, Reply};
-use std::alloc::{AllocError, Global};
+use std::alloc::Global;
 use std::marker::Brand;
 use std::sync::ledger::{Blank, Ledger};
-
-/// Runs a program by the meaning of C, and answers how the run ended.
-fn run_program<I: Source, O: Sink>(
-    alloc: Global,
-    program: &Program,
-    opts: &RunOpts,
-    input: &mut I,
-    out: &mut O,
-) -> Answer
-    ensures runs { RunsAs (program_of program.now.modules.items) (frame_among program.now.frames.items) opts.now (I.rest input.old) result (I.rest input.new) (O.taken out.old) (O.taken out.new) }
-    ensures answer { IsRunAnswer result }
-    ensures read { InputCount (I.faults input.old) (I.faults input.new) result }
-    ensures write { OutputCount (O.faults out.old) (O.faults out.new) result }
-{
-    let ran = interpret(
-        alloc,
-        &program.modules,
-        &program.frames,
-        opts.build.stack,
-        opts.budget,
-        input,
-        out,
-    );
-    answer_of(ran)
-}
-
-/// Runs the program of modules that were linked to an image.
-fn run_linked<I: Source, O: Sink>(
-    alloc: Global,
-    modules: &[Module],
-    image: &[u8],
-    opts: &RunOpts,
-    input: &mut I,
-    out: &mut O,
-) -> Answer
-    requires { HoldsImage image.now }
-    ensures runs { RunsLinked (map source modules.now) image.now opts.now (I.rest input.old) result (I.rest input.new) (O.taken out.old) (O.taken out.new) }
-    ensures typed { UnlessMemory result ((typed : List ProgramModule) × AreTyped (map source modules.now) typed) }
-    ensures answer { IsRunAnswer result }
-    ensures read { InputCount (I.faults input.old) (I.faults input.new) result }
-    ensures write { OutputCount (O.faults out.old) (O.faults out.new) result }
-{
-    match program_of(alloc, modules, image) {
-        Ok(program) => run_program(alloc, &program, opts, input, out),
-        Err(AllocError) => Answer::NoMemory,
-    }
-}
 
 /// Links modules, with a ledger that counts the objects that are made, and runs their program.
 fn interpret_counted<S: Store, L: Ledger, I: Source, O: Sink>(

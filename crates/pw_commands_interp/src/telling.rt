@@ -6,7 +6,8 @@ ghost use Rattle.std.specs.List.{list_any};
 ghost use Rattle.std.specs.Str.{bytes_eq};
 ghost use Rattle.pw_io.specs.Files.{Files};
 ghost use Rattle.pw_store_texts.specs.Names.{source_name};
-ghost use Rattle.pw_commands_interp.specs.Interpreting.{IsToldEnd, TellsToken, ToldAny, told_end};
+ghost use Rattle.pw_interp_runs.specs.Running.{TellsToken};
+ghost use Rattle.pw_commands_interp.specs.Interpreting.{IsToldEnd, ToldAny, told_end};
 
 use pw_store_texts::SOURCE_ENDING;
 use pw_top_answer::{Answer, Reply};

@@ -3,7 +3,7 @@ use Rattle.std.proofs.Common.{◌≡◌, refl, ap, Option, List, [], ◌∷◌, 
 use Rattle.pw_value.specs.declared.value.Value.{Value}
 use Rattle.pw_cmean.specs.Worlds.{World}
 use Rattle.pw_cmean.specs.Acts.{Act}
-use Rattle.pw_interp_steps.specs.declared.call.Call.{Call}
+use Rattle.pw_interp_pushes.specs.declared.call.Call.{Call}
 use Rattle.pw_interp_machine.specs.Waiting.{Active, goes_on, callers_act}
 use Rattle.pw_interp_machine.specs.Standing.{IsCall, AreCalls}
 

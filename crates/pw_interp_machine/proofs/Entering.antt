@@ -24,7 +24,7 @@ use Rattle.pw_interp_todo.specs.Leading.{Leads}
 use Rattle.pw_interp_todo.specs.Resuming.{Rest, Flowed, after, resume, on_flow, on_value, end_objects}
 use Rattle.pw_interp_todo.proofs.ActLaws.{grouped, follow_same, given_on}
 use Rattle.pw_interp_todo.proofs.LeadLaws.{further, same_lead, named, in_front, behind_given, runs_so}
-use Rattle.pw_interp_steps.specs.declared.call.Call.{Call}
+use Rattle.pw_interp_pushes.specs.declared.call.Call.{Call}
 use Rattle.pw_interp_machine.specs.Bodies.{with_arguments}
 use Rattle.pw_interp_functions.specs.Locals.{made}
 use Rattle.pw_interp_machine.specs.Waiting.{Active, leave, ended}

@@ -21,11 +21,11 @@ use Rattle.pw_interp_todo.specs.declared.todo.Control.TheVariants as C
 use Rattle.pw_interp_todo.specs.Leading.{Leads}
 use Rattle.pw_interp_todo.specs.Resuming.{Rest, Gave, Flowed, resume, on_value, control_act}
 use Rattle.pw_interp_todo.proofs.LeadLaws.{named}
-use Rattle.pw_interp_steps.specs.declared.call.Call.{Call}
+use Rattle.pw_interp_pushes.specs.declared.call.Call.{Call}
 use Rattle.pw_interp_machine.specs.declared.machine.Machine.{Machine}
 use Rattle.pw_interp_machine.specs.Waiting.{Active, leave, ended, goes_on, callers_act}
 use Rattle.pw_interp_machine.specs.Standing.{IsCall, AreCalls, InCall, StandsAt}
-use Rattle.pw_interp_steps.specs.Staying.{StepsCall}
+use Rattle.pw_interp_pushes.specs.Staying.{StepsCall}
 use Rattle.pw_interp_machine.specs.Stepping.{EndsSo, Starts, StepsAt, body_first}
 use Rattle.pw_interp_machine.proofs.Callers.{callers_last, calls_last, last_of}
 

@@ -7,7 +7,7 @@ use Rattle.pw_cmean.specs.SourceRun.{finish}
 use Rattle.pw_interp_state.specs.Shown.{Shown, Streams, all_shown}
 use Rattle.pw_interp_calls.specs.Views.{view_env}
 use Rattle.pw_interp_todo.specs.Resuming.{Rest, resume, control_act}
-use Rattle.pw_interp_steps.specs.declared.call.Call.{Call}
+use Rattle.pw_interp_pushes.specs.declared.call.Call.{Call}
 use Rattle.pw_interp_machine.specs.declared.machine.Machine.{Machine}
 use Rattle.pw_interp_machine.specs.Waiting.{Active, ended, callers_act}
 

@@ -15,7 +15,7 @@ use Rattle.pw_interp_calls.specs.Endings.{view_ending}
 use Rattle.pw_interp_calls.specs.Views.{view_env}
 use Rattle.pw_interp_todo.specs.Leading.{Leads}
 use Rattle.pw_interp_todo.specs.Resuming.{Rest, Flowed, resume, control_act}
-use Rattle.pw_interp_steps.specs.declared.call.Call.{Call}
+use Rattle.pw_interp_pushes.specs.declared.call.Call.{Call}
 use Rattle.pw_interp_machine.specs.declared.machine.Machine.{Machine}
 use Rattle.pw_interp_machine.specs.Waiting.{Active, leave, ended}
 use Rattle.pw_interp_machine.specs.Standing.{InCall, StandsAt, Stands}

@@ -4,7 +4,7 @@ use Rattle.pw_value.specs.declared.value.Value.{Value}
 use Rattle.pw_cmean.specs.Acts.{Act, Gives, Returned, ◌>>◌}
 use Rattle.pw_interp_calls.specs.Views.{view_env}
 use Rattle.pw_interp_todo.specs.Resuming.{Rest, Gave, on_value, resume}
-pub use Rattle.pw_interp_steps.specs.declared.call.Call.{Call}
+pub use Rattle.pw_interp_pushes.specs.declared.call.Call.{Call}
 
 -- What no code holds of a call that is not over: the function's full name, and the functions that were active before it.
 pub record Active : Type 0 where

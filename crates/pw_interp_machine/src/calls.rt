@@ -14,7 +14,7 @@ ghost use Rattle.pw_interp_todo.specs.Operands.{call_behind};
 ghost use Rattle.pw_interp_todo.specs.Resuming as spec;
 ghost use Rattle.pw_interp_machine.specs.Bodies.{with_arguments};
 ghost use Rattle.pw_interp_machine.specs.Stepping.{Begins, Opens, StepsAt};
-ghost use Rattle.pw_interp_steps.specs.Orders.{then_gave};
+ghost use Rattle.pw_interp_pushes.specs.Orders.{then_gave};
 
 use crate::machine::Machine;
 use crate::results::finish;
@@ -22,7 +22,7 @@ use crate::settling::settle;
 use pw_interp_calls::{Ending, Env, Stop, World};
 use pw_interp_functions::{call_library, callee_of, make_locals, outermost, set_parameters};
 use pw_interp_state::{State, has_room};
-use pw_interp_steps::{Call, lower, take_arguments, transferred};
+use pw_interp_pushes::{Call, lower, take_arguments, transferred};
 use pw_interp_todo::{Callee, Control, Doing, Entry, Part, Todo};
 use pw_interp_world::{Body, Part as Module};
 use pw_lower_forms::full_name;

@@ -1,6 +1,6 @@
 //! What a run is while it goes on.
 
-use pw_interp_steps::Call;
+use pw_interp_pushes::Call;
 use pw_interp_todo::Control;
 
 /// A run: the call of the function that runs, the calls that wait for it, of which the last is the caller, and what is done

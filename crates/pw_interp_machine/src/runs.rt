@@ -15,7 +15,7 @@ use crate::calls::begin_bounded;
 use crate::machine::Machine;
 use pw_interp_calls::{Stop, World};
 use pw_interp_state::State;
-use pw_interp_steps::Call;
+use pw_interp_pushes::Call;
 use pw_interp_todo::{Control, Doing, Entry, Part};
 use pw_interp_world::{Body, Part as Module};
 use pw_typed::TFunction;

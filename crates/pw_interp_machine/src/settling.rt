@@ -3,8 +3,8 @@
 ghost use Rattle.pw_cmean.specs.Worlds as worlds;
 ghost use Rattle.pw_interp_calls.specs.Views.{view_env};
 ghost use Rattle.pw_interp_state.specs.Shown.{Shown};
-ghost use Rattle.pw_interp_steps.specs.declared.call.Call as code;
-ghost use Rattle.pw_interp_steps.specs.Staying.{StepsCall};
+ghost use Rattle.pw_interp_pushes.specs.declared.call.Call as code;
+ghost use Rattle.pw_interp_pushes.specs.Staying.{StepsCall};
 ghost use Rattle.pw_interp_machine.specs.Stepping.{StepsAt};
 
 use crate::machine::Machine;

@@ -8,7 +8,6 @@ ghost use Rattle.pw_cmean.specs.Worlds as worlds;
 ghost use Rattle.pw_interp_state.specs.Shown.{Shown, view_state};
 ghost use Rattle.pw_interp_calls.specs.Answers.{Answers};
 ghost use Rattle.pw_interp_calls.specs.Views.{view_env};
-ghost use Rattle.pw_interp_direct.specs.Direct.{IsDirect};
 ghost use Rattle.pw_interp_todo.specs.Asking.{answered, asked_act};
 ghost use Rattle.pw_interp_todo.specs.Flows.{view_flow};
 ghost use Rattle.pw_interp_todo.specs.Going.{going_act, remainder_act, use_act};
@@ -16,14 +15,9 @@ ghost use Rattle.pw_interp_todo.specs.Operands as operands;
 ghost use Rattle.pw_interp_todo.specs.Parts.{doing_act};
 ghost use Rattle.pw_interp_todo.specs.Resuming as spec;
 ghost use Rattle.pw_interp_flows.specs.Entering.{has_objects};
-ghost use Rattle.pw_interp_steps.specs.Staying.{StepsCall};
-ghost use Rattle.pw_interp_steps.specs.Orders.{then_gave, then_flowed, then_listed, then_argued};
+ghost use Rattle.pw_interp_pushes.specs.Staying.{StepsCall};
+ghost use Rattle.pw_interp_pushes.specs.Orders.{then_gave, then_flowed, then_listed, then_argued};
 
-use crate::arguments::push_arguments;
-use crate::blocks::{end_local, open_block};
-use crate::call::Call;
-use crate::pushes::{push_going, push_next};
-use crate::settling::given;
 use pw_interp_acts::used;
 use pw_interp_asks::ask;
 use pw_interp_calls::{Ending, Stop};
@@ -31,6 +25,7 @@ use pw_interp_direct::{answer_of, is_direct};
 use pw_interp_flows::{begin, remainder, use_value};
 use pw_interp_functions::end_parameters;
 use pw_interp_operands::behind;
+use pw_interp_pushes::{Call, end_local, given, open_block, push_arguments, push_going, push_next};
 use pw_interp_state::State;
 use pw_interp_todo::{Asked, Control, Doing, Flow, Going, Operand, Part, Remainder, Todo, Use};
 use pw_typed::TExpr;
@@ -176,24 +171,7 @@ fn value_step<'a>(
     push_going(&mut call.todo, &mut call.bound, going, bound)
 }
 
-/// The value of a small expression is evaluated at once, and the statement goes on with it.
-#[inline(always)]
-fn use_direct<'a>(
-    alloc: Global,
-    call: &mut Call<'a>,
-    state: &mut State,
-    e: &'a TExpr,
-    what: Use<'a>,
-    bound: u64,
-) -> Result<Control<'a>, Stop<'a>>
-    requires { IsDirect (view_expr e.now) }
-    ensures { StepsCall call.old (λ rest. then_flowed (going_act (Going.Ask (Asked.Answer e.entry) what.entry) (view_env call.old.env) call.old.bound) rest (view_env call.old.env) bound) (view_state state.old) result call.new (view_state state.new) }
-{
-    let given = answer_of(alloc, &call.env, state, e)?;
-    value_step(alloc, call, state, what, bound, given)
-}
-
-/// A statement asks for the value of an expression.
+/// A statement asks for the value of an expression: that of a small one is evaluated at once, and the statement goes on with it.
 #[inline(always)]
 fn use_answer<'a>(
     alloc: Global,
@@ -206,7 +184,8 @@ fn use_answer<'a>(
     ensures { StepsCall call.old (λ rest. then_flowed (going_act (Going.Ask (Asked.Answer e.entry) what.entry) (view_env call.old.env) call.old.bound) rest (view_env call.old.env) bound) (view_state state.old) result call.new (view_state state.new) }
 {
     if is_direct(e, DIRECT_DEPTH) {
-        use_direct(alloc, call, state, e, what, bound)
+        let given = answer_of(alloc, &call.env, state, e)?;
+        value_step(alloc, call, state, what, bound, given)
     } else {
         let going = Going::Ask(Asked::Answer(e), what);
         push_going(&mut call.todo, &mut call.bound, going, bound)

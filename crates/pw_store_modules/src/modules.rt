@@ -2,8 +2,10 @@
 
 ghost use Rattle.std.specs.Prelude.{◌≡◌, ◌≤◌, true, map, IfOk, OnOk, IfSome, string_bytes, length, take, ◌-◌, fold, [], count_by, All, vec_len};
 ghost use Rattle.std.specs.List.{list_all, position_or_len};
-ghost use Rattle.pw_store_modules.specs.Modules.{is_name_byte, is_module_name, is_module_file, IsModuleFile, stem, text_read};
-ghost use Rattle.pw_store_modules.specs.Reading.{is_file_before, placed, with_file, module_files};
+ghost use Rattle.std.specs.FinMap as finite;
+ghost use Rattle.pw_io.specs.Files.{Files};
+ghost use Rattle.pw_store_modules.specs.Modules.{is_name_byte, is_module_name, is_module_file, IsModuleFile, modules_of, stem, text_read};
+ghost use Rattle.pw_store_modules.specs.Reading.{is_file_before, placed, with_file, module_files, sources_of};
 
 use crate::file_names::TEXT_ENDING;
 use crate::limits::MODULE_NAME_LIMIT;
@@ -112,10 +114,13 @@ fn placed_modules(alloc: Global, names: &[String]) -> Result<Vec<String>, AllocE
     Ok(files)
 }
 
-/// The modules' files among these, in the order of the modules' names.
+/// The modules' files among these, in the order of the modules' names. Of the names of all files of a store they are the files of its
+/// modules, which `read_sources` reads.
 pub fn module_files(alloc: Global, names: &[String]) -> Result<Vec<String>, AllocError>
-    ensures files { IfOk result (λ files. map string_bytes files.items ≡ module_files (map string_bytes names.now)) }
-    ensures modules { IfOk result (λ files. All (λ file. IsModuleFile (string_bytes file)) files.items) }
+    ensures files { IfOk result (λ found. map string_bytes found.items ≡ module_files (map string_bytes names.now)) }
+    ensures modules { IfOk result (λ found. All (λ file. IsModuleFile (string_bytes file)) found.items) }
+    ensures sources { (files : Files) → map string_bytes names.now ≡ finite.keys files → IfOk result (λ found. sources_of files (map string_bytes found.items) ≡ modules_of files) }
+    ensures count { (files : Files) → map string_bytes names.now ≡ finite.keys files → IfOk result (λ found. length found.items ≡ length (modules_of files)) }
 {
     placed_modules(alloc, names)
 }

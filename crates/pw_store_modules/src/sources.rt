@@ -1,18 +1,18 @@
 //! The texts of a store's modules, in the order of their names.
 
-ghost use Rattle.std.specs.Prelude.{◌≡◌, ◌≤◌, IfOk, OnOk, IfSome, All, map, ◌++◌, option_to_list, length, string_bytes};
+ghost use Rattle.std.specs.Prelude.{◌≡◌, IfOk, OnOk, IfSome, All, map, ◌++◌, option_to_list, string_bytes};
 ghost use Rattle.std.specs.Option.{option_map};
 ghost use Rattle.pw_io.specs.Files.{Keeps};
 ghost use Rattle.pw_io.specs.Faults.{HasStoreCause};
-ghost use Rattle.pw_store_modules.specs.Modules.{IsModuleFile, modules_of, names_of_modules, stem};
+ghost use Rattle.pw_store_modules.specs.Modules.{IsModuleFile};
 ghost use Rattle.pw_store_modules.specs.Reading.{source_of, sources_of};
 ghost use Rattle.pw_store_modules.specs.Views.{source};
 
 use crate::limits::TEXT_READ;
-use crate::modules::{Module, module_files, stem};
+use crate::modules::{Module, stem};
 use pw_io::{Store, StoreError};
 use pw_value::Name;
-use std::alloc::{AllocError, Global};
+use std::alloc::Global;
 
 /// Reads a module's text.
 fn read_source<S: Store>(
@@ -73,39 +73,4 @@ pub fn read_sources<S: Store>(
         add_source(alloc, store, &mut modules, file.as_str())?;
     }
     Ok(modules)
-}
-
-/// The files of the modules of a store, in the byte order of the modules' names: `read_sources` reads them. The store
-/// stays as it is.
-pub fn module_files_of<S: Store>(alloc: Global, store: &mut S) -> Result<Vec<String>, StoreError>
-    ensures names { IfSome (S.told store.old) (λ told. IfOk result (λ files. map stem (map string_bytes files.items) ≡ names_of_modules told.files)) }
-    ensures sources { IfSome (S.told store.old) (λ told. IfOk result (λ files. sources_of told.files (map string_bytes files.items) ≡ modules_of told.files)) }
-    ensures modules { IfOk result (λ files. All (λ file. IsModuleFile (string_bytes file)) files.items) }
-    ensures same { Keeps (S.told store.old) (S.told store.new) }
-    ensures cause { HasStoreCause (S.faults store.old) (S.faults store.new) result }
-{
-    let names = store.names(alloc)?;
-    Ok(module_files(alloc, &names)?)
-}
-
-/// A module's name, from its file's.
-fn name_of(file: &String) -> Result<String, AllocError>
-    requires { IsModuleFile (string_bytes file.now) }
-    ensures { IfOk result (λ name. string_bytes name ≡ stem (string_bytes file.now)) }
-{
-    let mut name = file.clone()?;
-    name.truncate(name.len() - 2);
-    Ok(name)
-}
-
-/// The names of modules, from their files' names.
-pub(crate) fn names_of(alloc: Global, files: &[String]) -> Result<Vec<String>, AllocError>
-    requires { All (λ file. IsModuleFile (string_bytes file)) files.now }
-    ensures { IfOk result (λ names. map string_bytes names.items ≡ map stem (map string_bytes files.now)) }
-{
-    let mut names = Vec::new(alloc);
-    for file in files {
-        names.push(name_of(file)?)?;
-    }
-    Ok(names)
 }

@@ -1,6 +1,6 @@
 -- The modules of a store whose texts are more bytes than there may be: the first has a text that no module may have.
 use Rattle.std.proofs.Common.{◌≡◌, ◌↔◌, ℕ, zero, ◌≤◌, ◌<◌, Bool, true, false, if◌then◌else◌, List, [], ◌∷◌, length, map, Option, Some, None, Ok, Err, IsSome, Contains, refl, sym, ap, ◌∙◌, subst, arith}
-use Rattle.std.specs.Prelude.{IfSome, nat_lt}
+use Rattle.std.specs.Prelude.{nat_lt}
 use Rattle.std.specs.Global.{Vec}
 use Rattle.std.specs.Ordering.{nat_cmp}
 use Rattle.std.specs.declared.cmp.Ordering.{Ordering}
@@ -10,7 +10,7 @@ use Rattle.std.specs.FinMap.Entries.{put, by_order}
 use Rattle.std.proofs.lemmas.Bool.Decides.{nat_tests}
 use Rattle.std.proofs.lemmas.Cmp.{tied_itself}
 use Rattle.std.proofs.lemmas.List.{length-map}
-use Rattle.pw_io.specs.Files.{Files, Keeps, Told, prefix_of}
+use Rattle.pw_io.specs.Files.{Files, prefix_of}
 use Rattle.pw_store_modules.specs.Modules.{Source, is_module_name, module_map, modules_of, text_read}
 use Rattle.pw_store_modules.specs.Views.{source}
 use Rattle.pw_store_modules.specs.declared.few.ModulesFault.{ModulesFault}
@@ -74,34 +74,29 @@ modules_by by false shown = refl
 modules_within : Named → (files shown : Files) → modules_of (within_bytes files shown) ≡ sources_within files (modules_of shown)
 modules_within by files shown = modules_by by (is_crowded files) shown
 
-pub answers-within : Named → (first mid : Option Told) (found all : Vec Module) → IfSome first (λ t. AnswersPreprocessed t.files (Ok found)) → Keeps first mid
-    → IfSome mid (λ t. map source all.items ≡ sources_within t.files (map source found.items)) → IfSome first (λ t. AnswersSeen t.files (Ok all))
-answers-within by None mid found all h same p = tt
-answers-within by (Some t) mid found all h same p =
-    let P : Option Told → Type 0 = λ o. IfSome o (λ u. map source all.items ≡ sources_within u.files (map source found.items)) in
-    let are : map source all.items ≡ sources_within t.files (map source found.items) = subst P same p in
-    let shown : Files = seen.seen t.files h.1.0 in
-    let count : length all.items ≡ length (sources_within t.files (map source found.items)) = sym (length-map all.items source) ∙ ap length are in (
-      within_bytes t.files shown,
+pub answers-within : Named → (files : Files) (found all : Vec Module) → AnswersPreprocessed files (Ok found) → map source all.items ≡ sources_within files (map source found.items) → AnswersSeen files (Ok all)
+answers-within by files found all h are =
+    let shown : Files = seen.seen files h.1.0 in
+    let count : length all.items ≡ length (sources_within files (map source found.items)) = sym (length-map all.items source) ∙ ap length are in (
+      within_bytes files shown,
       (h.1.0, h.1.1, refl),
-      are ∙ ap (sources_within t.files) (h.2 ∙ ap modules_of h.1.2) ∙ sym (modules_within by t.files shown),
-      subst (λ (n : ℕ). n ≤ module_limit) (sym count) (within_few (is_crowded t.files) (map source found.items) (subst (λ (n : ℕ). n ≤ module_limit) (sym (length-map found.items source)) h.3)),
+      are ∙ ap (sources_within files) (h.2 ∙ ap modules_of h.1.2) ∙ sym (modules_within by files shown),
+      subst (λ (n : ℕ). n ≤ module_limit) (sym count) (within_few (is_crowded files) (map source found.items) (subst (λ (n : ℕ). n ≤ module_limit) (sym (length-map found.items source)) h.3)),
     )
 
 some_are : (count n : ℕ) → module_limit < count → count ≡ n → 0 < n
 some_are count n h e = omega (arith, h, e)
 
-pub many-within : Named → (first : Option Told) (fault : ModulesFault) → IfSome first (λ t. AnswersPreprocessed t.files (Err fault)) → IfSome first (λ t. AnswersSeen t.files (Err fault))
-many-within by None fault h = tt
-many-within by (Some t) (modules.TooMany count) h =
-    let shown : Files = seen.seen t.files h.1.0 in
+pub many-within : Named → (files : Files) (fault : ModulesFault) → AnswersPreprocessed files (Err fault) → AnswersSeen files (Err fault)
+many-within by files (modules.TooMany count) h =
+    let shown : Files = seen.seen files h.1.0 in
     let is : count ≡ length (modules_of shown) = h.2 ∙ ap (λ (f : Files). length (modules_of f)) h.1.2 in (
-      within_bytes t.files shown,
+      within_bytes files shown,
       (h.1.0, h.1.1, refl),
-      is ∙ sym (within_length (is_crowded t.files) (modules_of shown) (some_are count (length (modules_of shown)) h.3 is)) ∙ ap length (sym (modules_within by t.files shown)),
+      is ∙ sym (within_length (is_crowded files) (modules_of shown) (some_are count (length (modules_of shown)) h.3 is)) ∙ ap length (sym (modules_within by files shown)),
       h.3,
     )
-many-within by (Some t) (modules.Store error) h = tt
+many-within by files (modules.Store error) h = tt
 
 -- ---- what the code does
 
@@ -119,10 +114,8 @@ is_crowd n h = grind (arith, nat_tests, h)
 no_crowd : (n : ℕ) → n ≤ texts_limit → nat_lt texts_limit n ≡ false
 no_crowd n h = grind (arith, nat_tests, h)
 
-pub crowded_told : (first : Option Told) (bytes : ℕ) (sources all : List Source) → IfSome first (λ t. bytes ≡ text_bytes t.files) → texts_limit < bytes → all ≡ refused_sources sources → IfSome first (λ t. all ≡ sources_within t.files sources)
-crowded_told None bytes sources all h l e = tt
-crowded_told (Some t) bytes sources all h l e = crowd_by (is_crowded t.files) sources all (is_crowd (text_bytes t.files) (subst (λ (n : ℕ). texts_limit < n) h l)) e
+pub crowded_all : (files : Files) (bytes : ℕ) (sources all : List Source) → bytes ≡ text_bytes files → texts_limit < bytes → all ≡ refused_sources sources → all ≡ sources_within files sources
+crowded_all files bytes sources all h l e = crowd_by (is_crowded files) sources all (is_crowd (text_bytes files) (subst (λ (n : ℕ). texts_limit < n) h l)) e
 
-pub clear_told : (first : Option Told) (bytes : ℕ) (sources : List Source) → IfSome first (λ t. bytes ≡ text_bytes t.files) → bytes ≤ texts_limit → IfSome first (λ t. sources ≡ sources_within t.files sources)
-clear_told None bytes sources h l = tt
-clear_told (Some t) bytes sources h l = clear_by (is_crowded t.files) sources (no_crowd (text_bytes t.files) (subst (λ (n : ℕ). n ≤ texts_limit) h l))
+pub clear_all : (files : Files) (bytes : ℕ) (sources : List Source) → bytes ≡ text_bytes files → bytes ≤ texts_limit → sources ≡ sources_within files sources
+clear_all files bytes sources h l = clear_by (is_crowded files) sources (no_crowd (text_bytes files) (subst (λ (n : ℕ). n ≤ texts_limit) h l))

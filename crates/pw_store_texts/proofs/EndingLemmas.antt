@@ -6,7 +6,7 @@ use Rattle.std.proofs.lemmas.Slice.Eq.{bytes_eq-Decides}
 use Rattle.pw_cpp_sources.specs.Sources.{ends_in, has_gap, header_name_limit, is_header}
 use Rattle.pw_store_modules.specs.FileNames.{database_name, image_name, text_ending, text_name, object_ending, object_name}
 use Rattle.pw_store_modules.specs.Modules.{is_module_file, is_module_name, stem}
-use Rattle.pw_store_texts.specs.Names.{is_source_file, is_text_file, source_ending}
+use Rattle.pw_store_sources.specs.Names.{is_source_file, is_text_file, source_ending}
 
 both : (a b : Bool) → (a && b) ≡ true → (a ≡ true) × (b ≡ true)
 both true b h = (refl, h)
@@ -74,6 +74,35 @@ no_header_db e = let f : 46 ≡ 100 = first_is (codes ".h") (codes "db") e in ab
 
 no_header_mg : codes ".h" ≡ codes "mg" → ⊥
 no_header_mg e = let f : 46 ≡ 109 = first_is (codes ".h") (codes "mg") e in absurd (omega (arith, f))
+
+-- ---- a file is the text of one kind
+
+differ : (b : Bool) → (b ≡ true → ⊥) → b ≡ false
+differ true h = absurd (h refl)
+differ false h = refl
+
+second_is : (xs ys : List ℕ) → xs ≡ ys → get_or xs 1 0 ≡ get_or ys 1 0
+second_is xs ys e = ap (λ (bytes : List ℕ). get_or bytes 1 0) e
+
+no_source_header : source_ending ≡ codes ".h" → ⊥
+no_source_header e = let f : 99 ≡ 104 = second_is source_ending (codes ".h") e in absurd (omega (arith, f))
+
+no_source_module : source_ending ≡ text_ending → ⊥
+no_source_module e = let f : 99 ≡ 105 = second_is source_ending text_ending e in absurd (omega (arith, f))
+
+no_header_module : codes ".h" ≡ text_ending → ⊥
+no_header_module e = let f : 104 ≡ 105 = second_is (codes ".h") text_ending e in absurd (omega (arith, f))
+
+pub source-no-header : (file : List ℕ) → is_source_file file ≡ true → is_header file ≡ false
+source-no-header file s = differ (is_header file) (λ h. no_source_header (sym (source_ends file s) ∙ header_ends file h))
+
+pub source-no-module : (file : List ℕ) → is_source_file file ≡ true → is_module_file file ≡ false
+source-no-module file s = differ (is_module_file file) (λ m. no_source_module (sym (source_ends file s) ∙ module_ends file m))
+
+pub header-no-module : (file : List ℕ) → is_header file ≡ true → is_module_file file ≡ false
+header-no-module file h = differ (is_module_file file) (λ m. no_header_module (sym (header_ends file h) ∙ module_ends file m))
+
+-- ---- none is the file of what is built
 
 -- no text's file ends so
 abbrev IsOther : List ℕ → Type 0

@@ -1,10 +1,7 @@
 pub mod BytesLemmas
-pub mod ComeLemmas
 pub mod CrowdLemmas
 pub mod EndingLemmas
-pub mod HeaderLemmas
 pub mod NamedLemmas
-pub mod OutputLemmas
-pub mod Picking
 pub mod PlaceLemmas
+pub mod PlainLemmas
 pub mod SeenLemmas

@@ -10,10 +10,10 @@ use Rattle.pw_store_modules.specs.Modules.{Source, is_module_file, is_module_nam
 use Rattle.pw_store_modules.specs.Views.{source}
 use Rattle.pw_store_modules.specs.declared.modules.Module.{Module}
 use Rattle.pw_store_texts.specs.Named.{is_text_of_module, named_among, names_of_texts, with_entry, with_name}
-use Rattle.pw_store_texts.specs.Names.{is_source_file}
+use Rattle.pw_store_sources.specs.Names.{is_source_file}
 use Rattle.pw_store_texts.specs.Placing.{placed}
 use Rattle.pw_store_texts.proofs.BytesLemmas.{module_named}
-use Rattle.pw_store_texts.proofs.HeaderLemmas.{source-named}
+use Rattle.pw_store_sources.proofs.HeaderLemmas.{source-named}
 
 named_by : (a b : Bool) (P : Type 0) → (a ≡ true → P) → (b ≡ true → P) → (a || b) ≡ true → P
 named_by true b P f g e = f refl

@@ -13,26 +13,28 @@ use Rattle.std.proofs.lemmas.Bool.{eqb-true}
 use Rattle.std.proofs.lemmas.List.{append_cancel_right, length-map, nil_from_length}
 use Rattle.std.proofs.lemmas.Map.Lookups.{exact_bytes}
 use Rattle.std.proofs.lemmas.Map.Views.{tells_apart}
+use Rattle.pw_cpp.specs.Answers.{PreprocessesFile}
 use Rattle.pw_cpp.specs.declared.fault.CppFault.{CppFault}
 use Rattle.pw_cpp_sources.specs.Sources.{Texts}
 use Rattle.pw_io.specs.Files.{Files, Keeps, Told, prefix_of}
 use Rattle.pw_store_modules.specs.FileNames.{text_ending, text_name}
-use Rattle.pw_store_modules.specs.Modules.{HoldsModule, Source, is_module_name, module_map, modules_of, names_of_modules, stem, text_read}
-use Rattle.pw_store_modules.specs.Few.{AnswersFew}
+use Rattle.pw_store_modules.specs.Modules.{HoldsModule, Source, is_module_name, module_map, modules_of, stem, text_read}
 use Rattle.pw_store_modules.specs.Views.{source}
 use Rattle.pw_store_modules.specs.declared.few.ModulesFault.{ModulesFault}
 use Rattle.pw_store_modules.specs.declared.few.ModulesFault.TheVariants as modules
 use Rattle.pw_store_modules.specs.declared.modules.Module.{Module}
 use Rattle.pw_store_texts.specs.Bytes.{is_crowded}
-use Rattle.pw_store_texts.specs.Headers.{headers_of}
-use Rattle.pw_store_texts.specs.Names.{is_source_file}
-use Rattle.pw_store_texts.specs.Outputs.{output_of}
+use Rattle.pw_store_sources.specs.Headers.{headers_of}
+use Rattle.pw_store_sources.specs.Names.{is_source_file, source_name}
+use Rattle.pw_store_sources.specs.Outputs.{Output, files_with, output_of}
 use Rattle.pw_store_texts.specs.Placing.{placed, with_outputs}
+use Rattle.pw_store_sources.specs.Sources as come
 use Rattle.pw_store_texts.specs.Seen as seen
-use Rattle.pw_store_texts.specs.Seen.{AllCome, AnswersPreprocessed, IsPreprocessed, IsSeen, Outputs, StoreComes, first_name, outcome, refused, refused_text, seen_text, sources_among, sources_of, within_bytes}
-use Rattle.pw_store_texts.specs.declared.compiled.Compiled.{Compiled}
+use Rattle.pw_store_sources.specs.Sources.{AllCome, Outputs, StoreComes, outcome, sources_among, sources_of}
+use Rattle.pw_store_texts.specs.Seen.{AnswersPreprocessed, IsPreprocessed, IsSeen, first_name, refused, refused_text, seen_text, within_bytes}
+use Rattle.pw_store_sources.specs.declared.compiled.Compiled.{Compiled}
 use Rattle.pw_value.specs.Limits.{module_limit}
-use Rattle.pw_store_texts.proofs.HeaderLemmas.{source-named}
+use Rattle.pw_store_sources.proofs.HeaderLemmas.{source-named}
 
 -- ---- one output after another
 
@@ -133,8 +135,8 @@ sources_named files [] = tt
 sources_named files (file ∷ names) = named_by file (is_source_file file) (finite.get files file) (sources_among files names) refl (sources_named files names)
 
 come_named : (headers sources : Texts) (outputs : Outputs) → AllCome headers sources outputs → HaveNames sources → AreNamed outputs
-come_named headers sources outputs seen.none h = tt
-come_named headers sources outputs (seen.more name text output left rest comes k) h = (h.0, come_named headers left rest k h.1)
+come_named headers sources outputs come.none h = tt
+come_named headers sources outputs (come.more name text output left rest comes k) h = (h.0, come_named headers left rest k h.1)
 
 -- ---- the modules as a build sees them
 
@@ -144,28 +146,22 @@ seen_by laws files outputs comes = placed-seen laws files outputs (come_named (h
 is_preprocessed : (files : Files) (outputs : Outputs) → StoreComes files outputs → IsPreprocessed files (seen.seen files outputs)
 is_preprocessed files outputs comes = (outputs, comes, refl)
 
--- the modules that were read, with what comes of C sources
-pub placed-over : (told : Option Told) (sources all : List Source) (outputs : Outputs) → IfSome told (λ t. sources ≡ modules_of t.files) → all ≡ with_outputs sources outputs → IfSome told (λ t. all ≡ with_outputs (modules_of t.files) outputs)
-placed-over None sources all outputs e p = tt
-placed-over (Some t) sources all outputs e p = p ∙ ap (λ ss. with_outputs ss outputs) e
-
 -- no more than there may be
-pub answers-placed : Laws → (first now : Option Told) (outputs : Outputs) (all : Vec Module) → IfSome first (λ t. StoreComes t.files outputs) → Keeps first now → IfSome now (λ t. map source all.items ≡ with_outputs (modules_of t.files) outputs)
-    → length all.items ≤ module_limit → IfSome first (λ t. AnswersPreprocessed t.files (Ok all))
-answers-placed laws None now outputs all comes same p few = tt
-answers-placed laws (Some t) now outputs all comes same p few =
-    let P : Option Told → Type 0 = λ o. IfSome o (λ u. map source all.items ≡ with_outputs (modules_of u.files) outputs) in
-    let are : map source all.items ≡ with_outputs (modules_of t.files) outputs = subst P same p in
-    (seen.seen t.files outputs, is_preprocessed t.files outputs comes, are ∙ seen_by laws t.files outputs comes, few)
+pub answers-placed : Laws → (files : Files) (outputs : Outputs) (read all : Vec Module) → map source read.items ≡ modules_of files → StoreComes files outputs → map source all.items ≡ with_outputs (map source read.items) outputs
+    → length all.items ≤ module_limit → AnswersPreprocessed files (Ok all)
+answers-placed laws files outputs read all are comes placed few =
+    (seen.seen files outputs, is_preprocessed files outputs comes, placed ∙ ap (λ (ss : List Source). with_outputs ss outputs) are ∙ seen_by laws files outputs comes, few)
 
 -- more than there may be
-pub answers-many : Laws → (first now : Option Told) (outputs : Outputs) (all : Vec Module) (count : ℕ) → IfSome first (λ t. StoreComes t.files outputs) → Keeps first now → IfSome now (λ t. map source all.items ≡ with_outputs (modules_of t.files) outputs)
-    → count ≡ length all.items → module_limit < count → IfSome first (λ t. AnswersPreprocessed t.files (Err (modules.TooMany count)))
-answers-many laws None now outputs all count comes same p is many = tt
-answers-many laws (Some t) now outputs all count comes same p is many =
-    let P : Option Told → Type 0 = λ o. IfSome o (λ u. map source all.items ≡ with_outputs (modules_of u.files) outputs) in
-    let are : map source all.items ≡ with_outputs (modules_of t.files) outputs = subst P same p in
-    (seen.seen t.files outputs, is_preprocessed t.files outputs comes, is ∙ sym (length-map all.items source) ∙ ap length (are ∙ seen_by laws t.files outputs comes), many)
+pub answers-many : Laws → (files : Files) (outputs : Outputs) (read all : Vec Module) (fault : ModulesFault) (count : ℕ) → count ≡ length all.items → map source read.items ≡ modules_of files → StoreComes files outputs
+    → map source all.items ≡ with_outputs (map source read.items) outputs → (fault ≡ modules.TooMany count) × (module_limit < count) → AnswersPreprocessed files (Err fault)
+answers-many laws files outputs read all fault count is are comes placed many =
+    subst (λ (f : ModulesFault). AnswersPreprocessed files (Err f)) (sym many.0) (
+      seen.seen files outputs,
+      is_preprocessed files outputs comes,
+      is ∙ sym (length-map all.items source) ∙ ap length (placed ∙ ap (λ (ss : List Source). with_outputs ss outputs) are ∙ seen_by laws files outputs comes),
+      many.1,
+    )
 
 -- ---- where there is no C source
 
@@ -176,22 +172,19 @@ no-outcomes outputs all b same e t = ap (map outcome) (sym same ∙ nil_from_len
 as_they_are : (files : Files) (outputs : Outputs) → StoreComes files outputs → outputs ≡ [] → IsPreprocessed files files
 as_they_are files outputs comes none = (outputs, comes, sym (ap (seen.seen files) none))
 
-plain_by : (files : Files) (result : Result (Vec Module) ModulesFault) → IsPreprocessed files files → IfOk result (λ all. map source all.items ≡ modules_of files) → AnswersFew (length (names_of_modules files)) result → AnswersPreprocessed files result
-plain_by files (Ok all) is are few =
-    let count : length all.items ≡ length (names_of_modules files) = sym (length-map all.items source) ∙ ap length are ∙ sym (length-map (modules_of files) (λ s. s.0)) in
-    (files, is, are, subst (λ (n : ℕ). n ≤ module_limit) (sym count) few)
-plain_by files (Err (modules.TooMany count)) is are few = (files, is, few.0 ∙ length-map (modules_of files) (λ s. s.0), subst (λ (n : ℕ). module_limit < n) (sym few.0) few.1)
-plain_by files (Err (modules.Store error)) is are few = tt
-
-pub answers-plain : (first now : Option Told) (outputs : Outputs) (result : Result (Vec Module) ModulesFault) → IfSome first (λ t. StoreComes t.files outputs) → outputs ≡ [] → Keeps first now
-    → IfSome now (λ t. IfOk result (λ all. map source all.items ≡ modules_of t.files)) → IfSome now (λ t. AnswersFew (length (names_of_modules t.files)) result) → IfSome first (λ t. AnswersPreprocessed t.files result)
-answers-plain None now outputs result comes none same are few = tt
-answers-plain (Some t) now outputs result comes none same are few =
-    let P : Option Told → Type 0 = λ x. IfSome x (λ u. IfOk result (λ all. map source all.items ≡ modules_of u.files)) in
-    let Q : Option Told → Type 0 = λ x. IfSome x (λ u. AnswersFew (length (names_of_modules u.files)) result) in
-    plain_by t.files result (as_they_are t.files outputs comes none) (subst P same are) (subst Q same few)
+pub answers-plain : (files : Files) (outputs : Outputs) (count : ℕ) → StoreComes files outputs → outputs ≡ [] → count ≡ length (modules_of files) → module_limit < count → AnswersPreprocessed files (Err (modules.TooMany count))
+answers-plain files outputs count comes none is many = (files, as_they_are files outputs comes none, is, many)
 
 -- ---- laws
+
+abbrev pub HaveOne : Type 0
+HaveOne = (files : Texts) (name : List ℕ) (answer other : Output) → PreprocessesFile files name answer → PreprocessesFile files name other → answer ≡ other
+
+pub come-one : HaveOne → (headers sources : Texts) (outputs others : Outputs) → AllCome headers sources outputs → AllCome headers sources others → outputs ≡ others
+come-one one headers sources outputs others come.none come.none = refl
+come-one one headers sources outputs others (come.more name text output left rest h k) (come.more _ _ other _ more' h' k') =
+    ap (λ o. (name, o) ∷ rest) (one (files_with headers name text) (source_name name) output other h h')
+    ∙ ap (λ os. (name, other) ∷ os) (come-one one headers left rest more' k k')
 
 abbrev pub ComeToOne : Type 0
 ComeToOne = (files : Files) (outputs others : Outputs) → StoreComes files outputs → StoreComes files others → outputs ≡ others

@@ -4,8 +4,8 @@ use Rattle.std.specs.Option.{option_map_or}
 use Rattle.std.specs.FinMap as finite
 use Rattle.pw_cpp_sources.specs.Sources.{is_header}
 use Rattle.pw_io.specs.Files.{Files, prefix_of}
-use Rattle.pw_store_modules.specs.Modules.{is_module_file, stem, text_read}
-use Rattle.pw_store_texts.specs.Names.{is_source_file, source_name}
+use Rattle.pw_store_modules.specs.Modules.{Source, is_module_file, stem, text_read}
+use Rattle.pw_store_sources.specs.Names.{is_source_file, source_name}
 use Rattle.pw_value.specs.Limits.{texts_limit}
 
 -- the text of a module, or a header: `NAME.i` is one where no `NAME.c` stands
@@ -21,6 +21,13 @@ bytes_among files names = sum_by (bytes_in files) names
 
 abbrev pub text_bytes : Files → ℕ
 text_bytes files = bytes_among files (finite.keys files)
+
+-- the bytes of a module's text that stands in `NAME.i`, where no `NAME.c` stands beside it
+abbrev pub bytes_alone : Files → Source → ℕ
+bytes_alone files source = if is_none (finite.get files (source_name source.0)) then length source.1 else 0
+
+abbrev pub module_bytes : Files → List Source → ℕ
+module_bytes files sources = sum_by (bytes_alone files) sources
 
 -- they are more than there may be
 abbrev pub is_crowded : Files → Bool

@@ -1,8 +1,8 @@
 pub mod Bytes
-pub mod Headers
 pub mod Named
-pub mod Names
-pub mod Outputs
 pub mod Placing
+pub mod Plain
 pub mod Seen
-pub mod Views
+pub use Rattle.pw_store_sources.specs.Headers
+pub use Rattle.pw_store_sources.specs.Names
+pub use Rattle.pw_store_sources.specs.Outputs

@@ -3,7 +3,7 @@ use Rattle.std.specs.Prelude.{ℕ, Bool, ◌||◌, if◌then◌else◌, List, []
 use Rattle.std.specs.FinMap as finite
 use Rattle.pw_io.specs.Files.{Files}
 use Rattle.pw_store_modules.specs.Modules.{Source, is_module_file, stem}
-use Rattle.pw_store_texts.specs.Names.{is_source_file}
+use Rattle.pw_store_sources.specs.Names.{is_source_file}
 use Rattle.pw_store_texts.specs.Placing.{placed}
 
 -- the text of a module, preprocessed or not

@@ -6,7 +6,8 @@ use Rattle.std.specs.Ordering.{nat_cmp}
 use Rattle.pw_io.specs.Files.{Files, prefix_of}
 use Rattle.pw_store_modules.specs.Modules.{Source, text_read}
 use Rattle.pw_store_texts.specs.Bytes.{is_crowded}
-use Rattle.pw_store_texts.specs.Seen.{Outputs, first_name, refused_text, seen_text}
+use Rattle.pw_store_sources.specs.Sources.{Outputs}
+use Rattle.pw_store_texts.specs.Seen.{first_name, refused_text, seen_text}
 
 -- with a module of this name and this text in its place, in that of one of its name
 abbrev pub placed : List ℕ → List ℕ → List Source → List Source

@@ -1,98 +1,82 @@
 //! The bytes of the texts of a store together.
 
-ghost use Rattle.std.specs.Prelude.{◌≡◌, ◌+◌, IfOk, IfSome, is_none, map, string_bytes, true};
+ghost use Rattle.std.specs.Prelude.{◌≡◌, IfOk, IfSome, is_none, map, string_bytes, true};
 ghost use Rattle.std.specs.FinMap as finite;
 ghost use Rattle.pw_io.specs.Faults.{HasStoreCause};
-ghost use Rattle.pw_io.specs.Files.{Keeps};
-ghost use Rattle.pw_store_modules.specs.Modules.{is_module_file, stem};
-ghost use Rattle.pw_store_texts.specs.Bytes.{bytes_among, bytes_in, is_counted, text_bytes};
-ghost use Rattle.pw_store_texts.specs.Names.{source_name};
+ghost use Rattle.pw_io.specs.Files.{Files, Keeps};
+ghost use Rattle.pw_store_modules.specs.Modules.{is_module_name, modules_of};
+ghost use Rattle.pw_store_modules.specs.Views.{source};
+ghost use Rattle.pw_store_sources.specs.Names.{source_name};
+ghost use Rattle.pw_store_texts.specs.Bytes.{bytes_alone, module_bytes, text_bytes};
 
-use crate::names::{SOURCE_ENDING, is_source_file};
-use pw_cpp::is_header;
-use pw_io::{Store, StoreError};
-use pw_store_modules::{TEXT_READ, is_module_file, module_file, stem};
+use crate::plain::read_plain;
+use pw_io::{Store, StoreError, laws};
+use pw_store_modules::{Module, module_file, module_files};
+use pw_store_sources::{SOURCE_ENDING, read_bytes, sum_of};
 use pw_value::Name;
 use std::alloc::{AllocError, Global};
 
-/// The name of the C source that may stand beside `NAME.i`.
-#[tactic(auto, using(crate::proofs::BytesLemmas::module_named))]
-fn source_beside(alloc: Global, file: &str) -> Result<String, AllocError>
-    requires { is_module_file file.now ≡ true }
-    ensures { IfOk result (λ source. string_bytes source ≡ source_name (stem file.now)) }
+/// Whether no `NAME.c` stands beside a module's `NAME.i`, by the names of all files.
+fn is_alone(alloc: Global, names: &[String], name: &Name) -> Result<bool, AllocError>
+    requires { is_module_name name.now ≡ true }
+    ensures { (files : Files) → map string_bytes names.now ≡ finite.keys files → IfOk result (λ alone. alone ≡ is_none (finite.get files (source_name name.now))) }
 {
-    let name = Name::lawful(alloc, stem(file))?;
-    module_file(alloc, &name, SOURCE_ENDING)
-}
-
-/// Whether no `NAME.c` stands beside `NAME.i`.
-#[tactic(auto, using(crate::proofs::BytesLemmas::none_told))]
-fn is_alone<S: Store>(alloc: Global, store: &mut S, file: &str) -> Result<bool, StoreError>
-    requires { is_module_file file.now ≡ true }
-    ensures alone { IfSome (S.told store.old) (λ told. IfOk result (λ is. is ≡ is_none (finite.get told.files (source_name (stem file.now))))) }
-    ensures same { Keeps (S.told store.old) (S.told store.new) }
-    ensures cause { HasStoreCause (S.faults store.old) (S.faults store.new) result }
-{
-    let source = source_beside(alloc, file)?;
-    let found = store.get(alloc, source.as_str(), 0)?;
-    Ok(found.is_none())
-}
-
-/// Whether a file is the text of a module, or a header. `NAME.i` is one where no `NAME.c` stands.
-#[tactic(auto, using(crate::proofs::BytesLemmas::counted_source, crate::proofs::BytesLemmas::counted_header, crate::proofs::BytesLemmas::counted_other, crate::proofs::BytesLemmas::counted_alone))]
-fn is_counted<S: Store>(alloc: Global, store: &mut S, file: &str) -> Result<bool, StoreError>
-    ensures counted { IfSome (S.told store.old) (λ told. IfOk result (λ is. is ≡ is_counted told.files file.now)) }
-    ensures same { Keeps (S.told store.old) (S.told store.new) }
-    ensures cause { HasStoreCause (S.faults store.old) (S.faults store.new) result }
-{
-    if is_source_file(file.as_bytes()) {
-        return Ok(true);
-    }
-    if is_header(file.as_bytes()) {
-        return Ok(true);
-    }
-    if !is_module_file(file.as_bytes()) {
-        return Ok(false);
-    }
-    is_alone(alloc, store, file)
-}
-
-/// The bytes of a file, as far as texts are read, where it is the text of a module, or a header; else none.
-#[tactic(auto, using(crate::proofs::BytesLemmas::bytes_uncounted, crate::proofs::BytesLemmas::bytes_found, crate::proofs::BytesLemmas::bytes_gone))]
-fn bytes_in<S: Store>(alloc: Global, store: &mut S, file: &str) -> Result<u64, StoreError>
-    ensures bytes { IfSome (S.told store.old) (λ told. IfOk result (λ bytes. bytes ≡ bytes_in told.files file.now)) }
-    ensures same { Keeps (S.told store.old) (S.told store.new) }
-    ensures cause { HasStoreCause (S.faults store.old) (S.faults store.new) result }
-{
-    let counted = is_counted(alloc, store, file)?;
-    if !counted {
-        return Ok(0);
-    }
-    match store.get(alloc, file, TEXT_READ)? {
-        Some(text) => Ok(text.len() as u64),
-        None => Ok(0),
+    laws::names();
+    let source = module_file(alloc, name, SOURCE_ENDING)?;
+    match names.binary_search(&source) {
+        Ok(_) => Ok(false),
+        Err(_) => Ok(true),
     }
 }
 
-/// The sum of two counts of bytes. Want of memory is the answer for one that 64 bits cannot count.
-fn sum_of(bytes: u64, more: u64) -> Result<u64, AllocError>
-    ensures { IfOk result (λ sum. sum ≡ bytes + more) }
+/// The bytes of a module's text that was read of `NAME.i`, where no `NAME.c` stands beside it; else none.
+fn bytes_alone(alloc: Global, names: &[String], one: &Module) -> Result<u64, AllocError>
+    ensures { (files : Files) → map string_bytes names.now ≡ finite.keys files → IfOk result (λ bytes. bytes ≡ bytes_alone files (source one.now)) }
 {
-    bytes.checked_add(more).ok_or(AllocError)
+    let alone = is_alone(alloc, names, &one.name)?;
+    if alone {
+        Ok(one.text.len() as u64)
+    } else {
+        Ok(0)
+    }
 }
 
-/// The bytes of the texts among files of these names.
-fn bytes_among<S: Store>(alloc: Global, store: &mut S, names: &[String]) -> Result<u64, StoreError>
-    ensures bytes { IfSome (S.told store.old) (λ told. IfOk result (λ bytes. bytes ≡ bytes_among told.files (map string_bytes names.now))) }
-    ensures same { Keeps (S.told store.old) (S.told store.new) }
-    ensures cause { HasStoreCause (S.faults store.old) (S.faults store.new) result }
+/// The bytes of the texts of modules that were read of files `NAME.i`, of those beside which no `NAME.c` stands, by the names of all files.
+pub(crate) fn module_bytes(
+    alloc: Global,
+    names: &[String],
+    modules: &[Module],
+) -> Result<u64, AllocError>
+    ensures { (files : Files) → map string_bytes names.now ≡ finite.keys files → IfOk result (λ bytes. bytes ≡ module_bytes files (map source modules.now)) }
 {
     let mut bytes: u64 = 0;
-    for name in names {
-        let more = bytes_in(alloc, store, name.as_str())?;
+    for one in modules {
+        let more = bytes_alone(alloc, names, one)?;
         bytes = sum_of(bytes, more)?;
     }
     Ok(bytes)
+}
+
+/// The bytes of the modules' own texts, by the names of all files.
+fn plain_bytes<S: Store>(alloc: Global, store: &mut S, names: &[String]) -> Result<u64, StoreError>
+    ensures bytes { IfSome (S.told store.old) (λ told. map string_bytes names.now ≡ finite.keys told.files → IfOk result (λ bytes. bytes ≡ module_bytes told.files (modules_of told.files))) }
+    ensures same { Keeps (S.told store.old) (S.told store.new) }
+    ensures cause { HasStoreCause (S.faults store.old) (S.faults store.new) result }
+{
+    let files = module_files(alloc, names)?;
+    let plain = read_plain(alloc, store, names, &files)?;
+    Ok(plain.bytes)
+}
+
+/// The bytes of all texts, by the names of all files.
+fn bytes_among<S: Store>(alloc: Global, store: &mut S, names: &[String]) -> Result<u64, StoreError>
+    ensures bytes { IfSome (S.told store.old) (λ told. map string_bytes names.now ≡ finite.keys told.files → IfOk result (λ bytes. bytes ≡ text_bytes told.files)) }
+    ensures same { Keeps (S.told store.old) (S.told store.new) }
+    ensures cause { HasStoreCause (S.faults store.old) (S.faults store.new) result }
+{
+    let beside = read_bytes(alloc, store, names)?;
+    let own = plain_bytes(alloc, store, names)?;
+    Ok(sum_of(beside, own)?)
 }
 
 /// The bytes of the texts of all modules and headers of a store, each as far as texts are read: those of a C source where a module has

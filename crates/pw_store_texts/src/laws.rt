@@ -4,8 +4,9 @@ ghost use Rattle.std.specs.Prelude.{◌≡◌, ◌≢◌, ℕ, List, true};
 ghost use Rattle.std.specs.FinMap as finite;
 ghost use Rattle.pw_io.specs.Files.{Files};
 ghost use Rattle.pw_store_modules.specs.FileNames.{database_name, image_name, object_name};
-ghost use Rattle.pw_store_texts.specs.Names.{is_text_file};
-ghost use Rattle.pw_store_texts.specs.Seen.{IsSeen, Outputs, StoreComes};
+ghost use Rattle.pw_store_sources.specs.Names.{is_text_file};
+ghost use Rattle.pw_store_sources.specs.Sources.{Outputs, StoreComes};
+ghost use Rattle.pw_store_texts.specs.Seen.{IsSeen};
 
 use pw_io::laws::other_files;
 use pw_law_cpp::one_output;

@@ -1,27 +1,26 @@
 //! The modules of a store as a build sees them: what comes of each C source stands as its module's text.
 
-ghost use Rattle.std.specs.Prelude.{◌≡◌, ◌≤◌, IfOk, IfSome, length, map, true};
-ghost use Rattle.pw_io.specs.Faults.{HasStoreCause};
-ghost use Rattle.pw_io.specs.Files.{Keeps, prefix_of};
+ghost use Rattle.std.specs.Prelude.{◌≡◌, ◌≤◌, ◌+◌, ℕ, IfOk, IfSome, length, map, string_bytes, true};
+ghost use Rattle.std.specs.FinMap as finite;
+ghost use Rattle.pw_io.specs.Files.{Files, Keeps, prefix_of};
 ghost use Rattle.pw_store_modules.specs.Few.{HasModulesCause};
 ghost use Rattle.pw_store_modules.specs.Modules.{is_module_name, modules_of, text_read};
 ghost use Rattle.pw_store_modules.specs.Views.{source};
-ghost use Rattle.pw_store_texts.specs.Outputs.{output_of};
+ghost use Rattle.pw_store_sources.specs.Outputs.{output_of};
+ghost use Rattle.pw_store_sources.specs.Sources.{StoreComes, outcome};
+ghost use Rattle.pw_store_texts.specs.Bytes.{text_bytes};
 ghost use Rattle.pw_store_texts.specs.Placing.{refused_sources, sources_within, with_outputs};
-ghost use Rattle.pw_store_texts.specs.Seen.{AnswersPreprocessed, AnswersSeen, first_name, outcome, refused_text, seen_text};
+ghost use Rattle.pw_store_texts.specs.Seen.{AnswersPreprocessed, AnswersSeen, first_name, refused_text, seen_text};
 
-use crate::bytes::text_bytes;
-use crate::compiled::Compiled;
 use crate::place::put_module;
-use crate::sources::compile_sources;
+use crate::plain::{Plain, few_plain};
 use pw_cpp::CppFault;
-use pw_io::laws::{front, names, other_files};
-use pw_io::{Store, StoreError};
-use pw_store_modules::{
-    Module, ModulesFault, TEXT_READ, module_files_of, modules_are_exact, read_modules, read_sources,
-};
+use pw_io::laws::{front, other_files};
+use pw_io::{Store, laws};
+use pw_store_modules::{Module, ModulesFault, TEXT_READ, check_count, modules_are_exact};
+use pw_store_sources::{Compiled, Outcomes, compile_sources, sum_of};
 use pw_value::Name;
-use pw_value::limits::{MODULE_LIMIT, TEXTS_LIMIT};
+use pw_value::limits::TEXTS_LIMIT;
 use std::alloc::{AllocError, Global};
 
 /// A text that no module may have.
@@ -75,50 +74,26 @@ fn with_outputs(
     Ok(all)
 }
 
-/// The modules of a store as they stand in their files `NAME.i`.
-fn plain_modules<S: Store>(alloc: Global, store: &mut S) -> Result<Vec<Module>, StoreError>
-    ensures read { IfSome (S.told store.old) (λ told. IfOk result (λ modules. map source modules.items ≡ modules_of told.files)) }
-    ensures same { Keeps (S.told store.old) (S.told store.new) }
-    ensures cause { HasStoreCause (S.faults store.old) (S.faults store.new) result }
-{
-    let files = module_files_of(alloc, store)?;
-    read_sources(alloc, store, &files)
-}
-
-/// The modules of a store, with what comes of its C sources in their places.
-fn placed_modules<S: Store>(
+/// Modules with what comes of C sources in their places, where there are not too many.
+///
+/// # Errors
+///
+/// `TooMany` where there are more than `MODULE_LIMIT`, with their count; want of memory.
+fn placed_modules(
     alloc: Global,
-    store: &mut S,
+    modules: Vec<Module>,
     outputs: Vec<Compiled>,
-) -> Result<Vec<Module>, StoreError>
-    ensures placed { IfSome (S.told store.old) (λ told. IfOk result (λ all. map source all.items ≡ with_outputs (modules_of told.files) (map outcome outputs.items))) }
-    ensures same { Keeps (S.told store.old) (S.told store.new) }
-    ensures cause { HasStoreCause (S.faults store.old) (S.faults store.new) result }
-{
-    let modules = plain_modules(alloc, store)?;
-    Ok(with_outputs(alloc, modules, outputs)?)
-}
-
-/// The modules of a store in the byte order of their names, where there are not too many, with what comes of its C sources in their places:
-/// the output, and where there is a fault, a text that no module may have. Where there is no C source the modules are counted before a text
-/// is read. The store stays as it is.
-fn preprocessed_modules<S: Store>(alloc: Global, store: &mut S) -> Result<Vec<Module>, ModulesFault>
-    ensures modules { IfSome (S.told store.old) (λ told. AnswersPreprocessed told.files result) }
-    ensures same { Keeps (S.told store.old) (S.told store.new) }
-    ensures cause { HasModulesCause (S.faults store.old) (S.faults store.new) result }
+) -> Result<Vec<Module>, ModulesFault>
+    ensures modules { (files : Files) → map source modules.items ≡ modules_of files → StoreComes files (map outcome outputs.items) → AnswersPreprocessed files result }
+    ensures cause { (faults : ℕ) → HasModulesCause faults faults result }
 {
     modules_are_exact();
     other_files();
-    let outputs = compile_sources(alloc, store)?;
-    if outputs.as_slice().is_empty() {
-        return read_modules(alloc, store);
+    let all = with_outputs(alloc, modules, outputs)?;
+    match check_count(all.len()) {
+        Ok(()) => Ok(all),
+        Err(fault) => Err(fault),
     }
-    let all = placed_modules(alloc, store, outputs)?;
-    let count = all.len() as u64;
-    if count > MODULE_LIMIT {
-        return Err(ModulesFault::TooMany(count));
-    }
-    Ok(all)
 }
 
 /// The name of the first module; where there is none, one that a module may have.
@@ -152,28 +127,60 @@ fn refused_modules(alloc: Global, modules: Vec<Module>) -> Result<Vec<Module>, A
     Ok(all)
 }
 
-/// Modules, of which the first has a text that no module may have where the texts of the store are more bytes than there may be.
-#[tactic(auto, using(crate::proofs::CrowdLemmas::crowded_told, crate::proofs::CrowdLemmas::clear_told))]
-fn modules_within<S: Store>(
+/// Modules, of which the first has a text that no module may have where there are more bytes than there may be.
+fn modules_within(
+    alloc: Global,
+    modules: Vec<Module>,
+    bytes: u64,
+) -> Result<Vec<Module>, AllocError>
+    ensures { (files : Files) → bytes ≡ text_bytes files → IfOk result (λ all. map source all.items ≡ sources_within files (map source modules.items)) }
+{
+    if bytes > TEXTS_LIMIT {
+        refused_modules(alloc, modules)
+    } else {
+        Ok(modules)
+    }
+}
+
+/// The modules as a build sees them, of those that stand in files `NAME.i` and of what comes of the C sources.
+fn modules_seen(alloc: Global, plain: Plain, made: Outcomes) -> Result<Vec<Module>, ModulesFault>
+    ensures seen { (files : Files) → map source plain.modules.items ≡ modules_of files → StoreComes files (map outcome made.outputs.items) → made.bytes + plain.bytes ≡ text_bytes files → AnswersSeen files result }
+    ensures cause { (faults : ℕ) → HasModulesCause faults faults result }
+{
+    modules_are_exact();
+    laws::names();
+    other_files();
+    let bytes = sum_of(made.bytes, plain.bytes)?;
+    match placed_modules(alloc, plain.modules, made.outputs) {
+        Ok(all) => Ok(modules_within(alloc, all, bytes)?),
+        Err(fault) => Err(fault),
+    }
+}
+
+/// The modules as a build sees them, by the names of all files.
+fn seen_among<S: Store>(
     alloc: Global,
     store: &mut S,
-    modules: Vec<Module>,
-) -> Result<Vec<Module>, StoreError>
-    ensures within { IfSome (S.told store.old) (λ told. IfOk result (λ all. map source all.items ≡ sources_within told.files (map source modules.items))) }
+    names: &[String],
+) -> Result<Vec<Module>, ModulesFault>
+    ensures seen { IfSome (S.told store.old) (λ told. map string_bytes names.now ≡ finite.keys told.files → AnswersSeen told.files result) }
     ensures same { Keeps (S.told store.old) (S.told store.new) }
-    ensures cause { HasStoreCause (S.faults store.old) (S.faults store.new) result }
+    ensures cause { HasModulesCause (S.faults store.old) (S.faults store.new) result }
 {
-    let bytes = text_bytes(alloc, store)?;
-    if bytes > TEXTS_LIMIT {
-        return Ok(refused_modules(alloc, modules)?);
+    modules_are_exact();
+    laws::names();
+    other_files();
+    let made = compile_sources(alloc, store, names)?;
+    match few_plain(alloc, store, names, &made.outputs) {
+        Ok(plain) => modules_seen(alloc, plain, made),
+        Err(fault) => Err(fault),
     }
-    Ok(modules)
 }
 
 /// The modules of a store as a build sees them, in the byte order of their names, where there are not too many: the output that the
 /// preprocessor makes of `NAME.c` stands in the place of `NAME.i`, and where it has a fault, a text that no module may have; so does the
-/// first module where the texts of the store are more bytes than there may be. Where there is no C source the modules are counted before a
-/// text is read. The store stays as it is.
+/// first module where the texts of the store are more bytes than there may be. The names of the files are listed once and each text is read
+/// once; where there is no C source the modules are counted before that. The store stays as it is.
 ///
 /// # Errors
 ///
@@ -183,11 +190,6 @@ pub fn seen_modules<S: Store>(alloc: Global, store: &mut S) -> Result<Vec<Module
     ensures same { Keeps (S.told store.old) (S.told store.new) }
     ensures cause { HasModulesCause (S.faults store.old) (S.faults store.new) result }
 {
-    modules_are_exact();
-    names();
-    other_files();
-    match preprocessed_modules(alloc, store) {
-        Ok(modules) => Ok(modules_within(alloc, store, modules)?),
-        Err(fault) => Err(fault),
-    }
+    let names = store.names(alloc)?;
+    seen_among(alloc, store, &names)
 }

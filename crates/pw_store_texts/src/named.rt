@@ -9,12 +9,11 @@ ghost use Rattle.pw_store_modules.specs.Modules.{is_module_name};
 ghost use Rattle.pw_store_modules.specs.Views.{source};
 ghost use Rattle.pw_store_texts.specs.Named.{is_text_of_module, named_among, names_of_texts, with_entry};
 
-use crate::names::is_source_file;
 use crate::place::put_module;
 use pw_io::{Store, StoreError};
-use pw_store_modules::{Module, ModulesFault, is_module_file, module_file, stem};
+use pw_store_modules::{Module, ModulesFault, check_count, is_module_file, module_file, stem};
+use pw_store_sources::is_source_file;
 use pw_value::Name;
-use pw_value::limits::MODULE_LIMIT;
 use std::alloc::{AllocError, Global};
 
 /// Whether a file is the text of a module, preprocessed or not.
@@ -86,9 +85,6 @@ pub fn module_names<S: Store>(alloc: Global, store: &mut S) -> Result<Vec<String
     ensures cause { HasModulesCause (S.faults store.old) (S.faults store.new) result }
 {
     let names = all_names(alloc, store)?;
-    let count = names.len() as u64;
-    if count > MODULE_LIMIT {
-        return Err(ModulesFault::TooMany(count));
-    }
+    check_count(names.len())?;
     Ok(names)
 }

@@ -1,7 +1,7 @@
 use Rattle.std.proofs.Common.{rules}
 use Rattle.pw_interp_state.specs.Shown.{view_state}
 use Rattle.pw_interp_todo.proofs.LeadLaws.{in_front}
-use Rattle.pw_interp_steps.proofs.Stopping.{goes_by, stops_by, stops_on}
+use Rattle.pw_interp_pushes.proofs.Stopping.{goes_by, stops_by, stops_on}
 use Rattle.pw_interp_machine.proofs.Standings.{steps_further, steps_stop}
 use Rattle.pw_interp_machine.proofs.calls.call_with.Goals as goal
 

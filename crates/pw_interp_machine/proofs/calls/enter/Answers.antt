@@ -6,10 +6,10 @@ use Rattle.pw_cmean.specs.Acts.{Act, State, ◌>>=◌}
 use Rattle.pw_interp_calls.specs.Answers.{Stops}
 use Rattle.pw_interp_state.specs.Shown.{Streams, all_shown}
 use Rattle.pw_interp_todo.specs.Resuming.{control_act}
-use Rattle.pw_interp_steps.specs.declared.call.Call.{Call}
+use Rattle.pw_interp_pushes.specs.declared.call.Call.{Call}
 use Rattle.pw_interp_machine.specs.Standing.{InCall}
 use Rattle.pw_interp_machine.specs.Stepping.{body_first}
-use Rattle.pw_interp_steps.proofs.Stopping.{stops_on}
+use Rattle.pw_interp_pushes.proofs.Stopping.{stops_on}
 use Rattle.pw_interp_machine.proofs.Standings.{steps_enter, steps_no_memory, steps_stop}
 use Rattle.pw_interp_machine.proofs.calls.enter.Goals as goal
 

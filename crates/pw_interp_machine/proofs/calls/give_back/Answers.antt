@@ -3,7 +3,7 @@ use Rattle.pw_cmean.specs.Acts.{stop}
 use Rattle.pw_interp_calls.specs.Functions.{callable_of}
 use Rattle.pw_interp_calls.specs.Views.{view_env}
 use Rattle.pw_interp_machine.proofs.Finishing.{finish_is}
-use Rattle.pw_interp_steps.proofs.Pushing.{nothing_in}
+use Rattle.pw_interp_pushes.proofs.Pushing.{nothing_in}
 use Rattle.pw_interp_machine.proofs.Standings.{steps_finish, steps_return}
 use Rattle.pw_interp_machine.proofs.calls.give_back.Goals as goal
 

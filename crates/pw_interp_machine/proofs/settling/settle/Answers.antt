@@ -1,5 +1,5 @@
 use Rattle.std.proofs.Common.{rules, subst}
-use Rattle.pw_interp_steps.specs.Staying.{StepsCall}
+use Rattle.pw_interp_pushes.specs.Staying.{StepsCall}
 use Rattle.pw_interp_machine.proofs.Standings.{steps_in, steps_out}
 use Rattle.pw_interp_machine.proofs.settling.settle.Goals as goal
 

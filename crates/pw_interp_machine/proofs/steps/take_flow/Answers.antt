@@ -3,8 +3,8 @@ use Rattle.pw_interp_calls.specs.Views.{view_env}
 use Rattle.pw_interp_state.specs.Shown.{view_state}
 use Rattle.pw_interp_todo.specs.Flows.{view_flow}
 use Rattle.pw_interp_todo.specs.Resuming.{Flowed, after}
-use Rattle.pw_interp_steps.proofs.Pushing.{nothing_in}
-use Rattle.pw_interp_steps.proofs.Pushing.{popped_is}
+use Rattle.pw_interp_pushes.proofs.Pushing.{nothing_in}
+use Rattle.pw_interp_pushes.proofs.Pushing.{popped_is}
 use Rattle.pw_interp_machine.proofs.Standings.{steps_reached, steps_unleft}
 use Rattle.pw_interp_machine.proofs.steps.take_flow.Goals as goal
 

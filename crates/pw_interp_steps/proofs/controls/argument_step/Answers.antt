@@ -2,7 +2,7 @@ use Rattle.std.proofs.Common.{rules, refl}
 use Rattle.pw_interp_calls.specs.Views.{view_env}
 use Rattle.pw_interp_todo.specs.Resuming.{control_act}
 use Rattle.pw_interp_todo.proofs.LeadLaws.{left_so, no_memory, same_lead, then_more, then_stops}
-use Rattle.pw_interp_steps.proofs.Staying.{held_first}
+use Rattle.pw_interp_pushes.proofs.Staying.{held_first}
 use Rattle.pw_interp_steps.proofs.controls.argument_step.Goals as goal
 
 pub returns-in_err-value : goal.returns-in_err-value

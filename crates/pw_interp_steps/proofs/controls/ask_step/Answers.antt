@@ -1,8 +1,8 @@
 use Rattle.std.proofs.Common.{ap}
 use Rattle.pw_interp_calls.specs.Views.{view_env}
 use Rattle.pw_interp_todo.specs.Asking.{asked_act}
-use Rattle.pw_interp_steps.specs.Orders.{then_gave}
-use Rattle.pw_interp_steps.proofs.Staying.{call_named}
+use Rattle.pw_interp_pushes.specs.Orders.{then_gave}
+use Rattle.pw_interp_pushes.proofs.Staying.{call_named}
 use Rattle.pw_interp_steps.proofs.controls.ask_step.Goals as goal
 
 pub returns-in-Answer : goal.returns-in-Answer

@@ -2,8 +2,8 @@ use Rattle.std.proofs.Common.{rules, refl}
 use Rattle.pw_interp_calls.specs.Views.{view_env}
 use Rattle.pw_interp_todo.specs.Resuming.{Flowed, resume}
 use Rattle.pw_interp_todo.proofs.LeadLaws.{followed, in_front}
-use Rattle.pw_interp_steps.proofs.Stopping.{goes_by, stops_by, stops_on}
-use Rattle.pw_interp_steps.proofs.Staying.{left_stops}
+use Rattle.pw_interp_pushes.proofs.Stopping.{goes_by, stops_by, stops_on}
+use Rattle.pw_interp_pushes.proofs.Staying.{left_stops}
 use Rattle.pw_interp_steps.proofs.controls.begin_step.Goals as goal
 
 pub returns-in_err-going : goal.returns-in_err-going

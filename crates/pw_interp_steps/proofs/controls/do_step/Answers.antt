@@ -5,7 +5,7 @@ use Rattle.pw_interp_calls.specs.Views.{view_env}
 use Rattle.pw_interp_todo.specs.Flows.{view_entry}
 use Rattle.pw_interp_todo.specs.Parts.{part_act}
 use Rattle.pw_interp_todo.specs.Resuming.{Flowed}
-use Rattle.pw_interp_steps.proofs.Staying.{call_named}
+use Rattle.pw_interp_pushes.proofs.Staying.{call_named}
 use Rattle.pw_interp_steps.proofs.controls.do_step.Goals as goal
 
 pub returns-in-Some : goal.returns-in-Some

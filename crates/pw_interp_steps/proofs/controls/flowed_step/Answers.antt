@@ -4,7 +4,7 @@ use Rattle.pw_interp_state.specs.Shown.{view_state}
 use Rattle.pw_interp_todo.specs.Flows.{view_flow}
 use Rattle.pw_interp_todo.specs.declared.todo.Control.TheVariants as C
 use Rattle.pw_interp_todo.specs.Resuming.{Flowed, after, control_act, on_flow, on_list, on_value}
-use Rattle.pw_interp_steps.proofs.Staying.{call_end_local, call_end_parameters, call_named, call_wrong}
+use Rattle.pw_interp_pushes.proofs.Staying.{call_end_local, call_end_parameters, call_named, call_wrong}
 use Rattle.pw_interp_steps.proofs.controls.flowed_step.Goals as goal
 
 pub returns-in-Flow : goal.returns-in-Flow

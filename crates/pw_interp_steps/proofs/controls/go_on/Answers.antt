@@ -4,7 +4,7 @@ use Rattle.pw_interp_calls.specs.Views.{view_env}
 use Rattle.pw_interp_state.specs.Shown.{view_state}
 use Rattle.pw_interp_todo.specs.Going.{going_act}
 use Rattle.pw_interp_todo.specs.Resuming.{Flowed}
-use Rattle.pw_interp_steps.proofs.Staying.{call_named}
+use Rattle.pw_interp_pushes.proofs.Staying.{call_named}
 use Rattle.pw_interp_steps.proofs.controls.go_on.Goals as goal
 
 pub returns-in-Ask : goal.returns-in-Ask

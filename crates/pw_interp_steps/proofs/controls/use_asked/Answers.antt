@@ -5,7 +5,7 @@ use Rattle.pw_interp_state.specs.Shown.{view_state}
 use Rattle.pw_interp_todo.specs.declared.statements.Going.TheVariants as G
 use Rattle.pw_interp_todo.specs.Going.{going_act}
 use Rattle.pw_interp_todo.specs.Resuming.{Flowed}
-use Rattle.pw_interp_steps.proofs.Staying.{call_named}
+use Rattle.pw_interp_pushes.proofs.Staying.{call_named}
 use Rattle.pw_interp_steps.proofs.controls.use_asked.Goals as goal
 
 pub returns-in-Answer : goal.returns-in-Answer

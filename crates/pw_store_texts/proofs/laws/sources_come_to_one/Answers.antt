@@ -1,6 +1,6 @@
-use Rattle.pw_store_texts.proofs.ComeLemmas.{come-one}
-use Rattle.pw_store_texts.specs.Headers.{headers_of}
-use Rattle.pw_store_texts.specs.Seen.{sources_of}
+use Rattle.pw_store_texts.proofs.SeenLemmas.{come-one}
+use Rattle.pw_store_sources.specs.Headers.{headers_of}
+use Rattle.pw_store_sources.specs.Sources.{sources_of}
 use Rattle.pw_store_texts.proofs.laws.sources_come_to_one.Goals as goal
 
 pub returns : goal.returns

@@ -1,9 +1,14 @@
-use Rattle.std.proofs.Common.{map}
-use Rattle.pw_store_modules.specs.Views.{source}
+use Rattle.std.proofs.Common.{map, arith}
 use Rattle.pw_store_texts.specs.Seen.{outcome}
-use Rattle.pw_store_texts.proofs.SeenLemmas.{placed-over}
+use Rattle.pw_store_texts.proofs.SeenLemmas.{answers-many, answers-placed}
 use Rattle.pw_store_texts.proofs.modules.placed_modules.Goals as goal
 
-pub returns-clause-placed : goal.returns-clause-placed
-returns-clause-placed g c =
-    placed-over (g.S.Store.told c.args.store.now) (map source c.in_ok-modules.modules.items) (map source c.in_ok-with_outputs.field-0.items) (map outcome c.args.outputs.items) c.in_ok-modules.ensures.read c.in_ok-with_outputs.ensures
+pub returns-in-Ok-clause-modules : goal.returns-in-Ok-clause-modules
+returns-in-Ok-clause-modules c = λ files read comes.
+    answers-placed (record { exact = c.modules_are_exact.ensures.exact; inserted = c.other_files.ensures.inserted; insertion = c.other_files.ensures.insertion }) files (map outcome c.args.outputs.items) c.args.modules c.in_ok-all.all
+    read comes c.in_ok-all.ensures (omega (arith, c.in-Ok.ensures.few))
+
+pub returns-in-Err-clause-modules : goal.returns-in-Err-clause-modules
+returns-in-Err-clause-modules c = λ files read comes.
+    answers-many (record { exact = c.modules_are_exact.ensures.exact; inserted = c.other_files.ensures.inserted; insertion = c.other_files.ensures.insertion }) files (map outcome c.args.outputs.items) c.args.modules c.in_ok-all.all c.in-Err.fault _
+    (omega arith) read comes c.in_ok-all.ensures c.in-Err.ensures.many

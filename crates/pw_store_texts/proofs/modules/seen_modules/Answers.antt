@@ -1,12 +1,8 @@
-use Rattle.pw_store_texts.proofs.CrowdLemmas.{answers-within, many-within}
+use Rattle.std.proofs.Common.{map}
+use Rattle.std.specs.Prelude.{string_bytes}
+use Rattle.pw_store_texts.proofs.PlainLemmas.{named_seen}
 use Rattle.pw_store_texts.proofs.modules.seen_modules.Goals as goal
 
-pub returns-in_ok-modules_within-in-Ok-clause-seen : goal.returns-in_ok-modules_within-in-Ok-clause-seen
-returns-in_ok-modules_within-in-Ok-clause-seen g c =
-    answers-within (record { laws = record { exact = c.modules_are_exact.ensures.exact; inserted = c.other_files.ensures.inserted; insertion = c.other_files.ensures.insertion }; keys = c.names.ensures.exact })
-    (g.S.Store.told c.args.store.now) _ c.in-Ok.modules c.in_ok-modules_within-in-Ok.field-0 c.in-Ok.ensures.modules c.preprocessed_modules.ensures.same c.in_ok-modules_within-in-Ok.ensures.within
-
-pub returns-in-Err-clause-seen : goal.returns-in-Err-clause-seen
-returns-in-Err-clause-seen g c =
-    many-within (record { laws = record { exact = c.modules_are_exact.ensures.exact; inserted = c.other_files.ensures.inserted; insertion = c.other_files.ensures.insertion }; keys = c.names.ensures.exact })
-    (g.S.Store.told c.args.store.now) c.in-Err.fault c.in-Err.ensures.modules
+pub returns-clause-seen : goal.returns-clause-seen
+returns-clause-seen g c =
+    named_seen (g.S.Store.told c.args.store.now) _ (map string_bytes c.in_ok-names.names.items) c.seen_among.result c.in_ok-names.ensures.names c.in_ok-names.ensures.same (rw c.deref.ensures.value at c.seen_among.ensures.seen)

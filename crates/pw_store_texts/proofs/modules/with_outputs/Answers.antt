@@ -2,7 +2,7 @@ use Rattle.std.proofs.Common.{map, sym, ◌∙◌}
 use Rattle.std.specs.Vec.Iter.{into_iter_items}
 use Rattle.pw_store_modules.specs.Views.{source}
 use Rattle.pw_store_texts.specs.Placing.{with_outputs}
-use Rattle.pw_store_texts.specs.Seen.{outcome}
+use Rattle.pw_store_sources.specs.Sources.{outcome}
 use Rattle.pw_store_texts.proofs.SeenLemmas.{length-behind, none-placed, nothing-in, placed-more}
 use Rattle.pw_store_texts.proofs.modules.with_outputs.Goals as goal
 

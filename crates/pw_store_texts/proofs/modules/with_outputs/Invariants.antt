@@ -2,7 +2,7 @@ use Rattle.std.proofs.Common.{◌≡◌, length, map}
 use Rattle.std.specs.Vec.Iter.{into_iter_items, into_iter_len}
 use Rattle.pw_store_modules.specs.Views.{source}
 use Rattle.pw_store_texts.specs.Placing.{with_outputs}
-use Rattle.pw_store_texts.specs.Seen.{outcome}
+use Rattle.pw_store_sources.specs.Sources.{outcome}
 use Rattle.pw_store_texts.proofs.modules.with_outputs.Given as goal
 
 -- the modules so far, with what is left, are all

@@ -2,7 +2,7 @@ use Rattle.std.proofs.Common.{◌+◌, drop, map, arith}
 use Rattle.std.specs.Prelude.{string_bytes}
 use Rattle.pw_store_modules.specs.Views.{source}
 use Rattle.pw_store_modules.proofs.ModuleLemmas.{mapped_rest}
-use Rattle.pw_store_texts.proofs.ComeLemmas.{none-left}
+use Rattle.pw_store_sources.proofs.ComeLemmas.{none-left}
 use Rattle.pw_store_texts.proofs.NamedLemmas.{names_end, names_start, names_turn}
 use Rattle.pw_store_texts.proofs.named.named_among.Goals as goal
 

@@ -4,7 +4,7 @@ use Rattle.std.proofs.lemmas.List.{map-append}
 use Rattle.std.proofs.lemmas.List.Elements.{All-same}
 use Rattle.pw_store_modules.specs.Modules.{is_module_name}
 use Rattle.pw_store_modules.proofs.ModuleLemmas.{all_mapped, mapped_rest}
-use Rattle.pw_store_texts.proofs.ComeLemmas.{none-left}
+use Rattle.pw_store_sources.proofs.ComeLemmas.{none-left}
 use Rattle.pw_store_texts.proofs.NamedLemmas.{modules_named, name_end, name_turn}
 use Rattle.pw_store_texts.proofs.named.names_of.Goals as goal
 

@@ -1,4 +1,0 @@
-use Rattle.pw_commands_interp.proofs.programs.typed_module.Goals as goal
-
-pub returns-in_ok-copy-in-Ok : goal.returns-in_ok-copy-in-Ok
-returns-in_ok-copy-in-Ok c = (c.in_ok-copy-in-Ok.ensures, rw c.as_slice.ensures.value at c.in-Ok.ensures, tt)

@@ -1,0 +1,4 @@
+mod Opening
+pub mod Pushing
+pub mod Staying
+pub mod Stopping

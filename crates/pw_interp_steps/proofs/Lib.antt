@@ -1,4 +1,0 @@
-mod Opening
-pub mod Pushing
-mod Staying
-pub mod Stopping
