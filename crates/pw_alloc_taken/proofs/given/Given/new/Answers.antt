@@ -28,4 +28,4 @@ pub new-requires : goal.new-requires
 new-requires c =
     let occupied = c.in_ok-occupied.occupied in
     let zeros : occupied.items ≡ replicate c.args.count 0 = search rules in
-    omega (arith, occupied.small, occupied.ok.0, occupied.ok.1, ap (λ (ms : List ℕ). length ms) zeros, length-replicate c.args.count 0)
+    omega (arith, occupied.small, occupied.ok.0, occupied.ok.1, ap (λ (ms : List ℕ). length ms) zeros, length-replicate {A = ℕ} c.args.count 0)

@@ -62,7 +62,7 @@ returns-in_default-clause-left c =
     c.in_ok-look_ahead.ensures.within c.in_ok-look_ahead.ensures.answers in
     if-most c.put_out.result _ (left (length c.args.ground.text.now) (record c.args.self.now { pending = c.pop.new.self }) c.look_ahead.new.progress) (left (length c.args.ground.text.now) c.args.self.now c.args.progress.now)
     (omega (arith, looked-left (length c.args.ground.text.now) c.args.self.now c.args.progress.now c.look_ahead.new.progress c.args.self.now.pending c.look_ahead.new.pending less, ap length c.in_default.ensures.0, ap length c.in_default.ensures.1))
-    (out-left (length c.args.ground.text.now) (record c.args.self.now { pending = c.pop.new.self }) c.look_ahead.new.progress _ _ _ _ c.put_out.result c.put_out.ensures)
+    (out-left (length c.args.ground.text.now) (record c.args.self.now { pending = c.pop.new.self }) c.look_ahead.new.progress c.args.ground.mode c.args.name c.put_out.new.self c.put_out.new.progress c.put_out.result c.put_out.ensures)
 
 pub returns-then-is_spelled-clause-left : goal.returns-then-is_spelled-clause-left
 returns-then-is_spelled-clause-left c =
@@ -79,4 +79,4 @@ returns-clause-left c =
     if-most c.put_out-2.result _ (left (length c.args.ground.text.now) (record c.args.self.now { pending = c.push.new.self }) c.look_ahead.new.progress) (left (length c.args.ground.text.now) c.args.self.now c.args.progress.now)
     (omega (arith, taken-left (length c.args.ground.text.now) c.args.self.now c.args.progress.now c.look_ahead.new.progress c.args.self.now.pending c.look_ahead.new.pending c.pop.new.self c.in-Some.first c.in-Some.ensures less,
     ap length c.in_ok-push.ensures, length-append c.pop.new.self (c.in-Some.first ∷ [])))
-    (out-left (length c.args.ground.text.now) (record c.args.self.now { pending = c.push.new.self }) c.look_ahead.new.progress _ _ _ _ c.put_out-2.result c.put_out-2.ensures)
+    (out-left (length c.args.ground.text.now) (record c.args.self.now { pending = c.push.new.self }) c.look_ahead.new.progress c.args.ground.mode c.args.name c.put_out-2.new.self c.put_out-2.new.progress c.put_out-2.result c.put_out-2.ensures)

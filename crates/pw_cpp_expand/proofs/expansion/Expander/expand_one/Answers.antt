@@ -12,4 +12,4 @@ returns-in_default-clause-comes c =
     (no-macro-turn c.args.ground.source.now c.args.ground.text.now c.args.ground.macros.now c.args.ground.mode c.args.sets.now c.args.self.now c.args.lexeme c.args.progress.now (sym c.in_default.ensures)) c.requires.ready c.requires.lexeme _ _ c.put_out.result c.put_out.ensures
 
 pub returns-in_default-clause-left : goal.returns-in_default-clause-left
-returns-in_default-clause-left c = out-left (length c.args.ground.text.now) c.args.self.now c.args.progress.now _ _ _ _ c.put_out.result c.put_out.ensures
+returns-in_default-clause-left c = out-left (length c.args.ground.text.now) c.args.self.now c.args.progress.now c.args.ground.mode c.args.lexeme c.put_out.new.self c.put_out.new.progress c.put_out.result c.put_out.ensures

@@ -23,4 +23,4 @@ pub returns-clause-left : goal.returns-clause-left
 returns-clause-left c =
     if-most c.put_result.result _ (left (length c.args.ground.text.now) (record c.args.self.now { pending = c.args.call.behind; out = c.args.call.before }) c.args.progress.now)
     (left (length c.args.ground.text.now) c.args.self.now c.args.progress.now + length c.args.call.behind) (omega arith)
-    (result-left (length c.args.ground.text.now) (record c.args.self.now { pending = c.args.call.behind; out = c.args.call.before }) c.args.progress.now _ _ _ _ c.put_result.result c.put_result.ensures)
+    (result-left (length c.args.ground.text.now) (record c.args.self.now { pending = c.args.call.behind; out = c.args.call.before }) c.args.progress.now c.in_ok-made.made c.args.call.replaced.place c.put_result.new.self c.put_result.new.progress c.put_result.result c.put_result.ensures)

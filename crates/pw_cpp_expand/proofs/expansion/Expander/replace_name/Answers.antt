@@ -19,4 +19,4 @@ returns-clause-comes c =
     c.put_result.result c.put_result.ensures
 
 pub returns-clause-left : goal.returns-clause-left
-returns-clause-left c = result-left (length c.args.ground.text.now) c.args.self.now c.args.progress.now _ _ _ _ c.put_result.result c.put_result.ensures
+returns-clause-left c = result-left (length c.args.ground.text.now) c.args.self.now c.args.progress.now c.in_ok-made.made c.args.name.place c.put_result.new.self c.put_result.new.progress c.put_result.result c.put_result.ensures
