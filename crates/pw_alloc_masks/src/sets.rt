@@ -1,7 +1,7 @@
 //! Sets of registers of points, as a tree: what is in the sets of neighbouring points is found in as many steps as the number
 //! of points has digits, and so is a register put into the set of a point.
 
-ghost use Rattle.std.specs.Prelude.{◌≡◌, ◌⊎◌, ◌+◌, ◌-◌, ◌%◌, ◌≤◌, ◌<◌, ◌↔◌, ℕ, length, IfOk};
+ghost use Rattle.std.specs.Prelude.{◌≡◌, ◌⊎◌, ◌+◌, ◌-◌, ◌%◌, ◌^◌, ◌≤◌, ◌<◌, ◌↔◌, ℕ, length, IfOk};
 ghost use Rattle.pw_alloc_masks.specs.Masks.{HasRegister};
 ghost use Rattle.pw_alloc_masks.specs.Sets.{HasPlace, HasBelow, HasAmong, AreJoined, AreJoinedBut};
 
@@ -106,14 +106,12 @@ impl PointSets {
 
     /// Empty sets of so many points.
     pub fn new(alloc: Global, points: usize) -> Result<PointSets, NoMemory>
+        requires { points < 2 ^ 63 }
         ensures sets { IfOk result AreSets }
         ensures points { IfOk result (λ v. v.points ≡ points) }
         ensures none { IfOk result (λ v. (p k : ℕ) → ¬ HasAt v p k) }
     {
-        let Some(places) = points.checked_add(points) else {
-            return Err(NoMemory);
-        };
-        let masks = vec![in alloc; 0; places]?;
+        let masks = vec![in alloc; 0; points + points]?;
         Ok(PointSets { masks, points })
     }
 

@@ -1,8 +1,6 @@
 -- Rows of keywords with the integer types that they say, and qualifiers: how many there are, and which fit a type.
-use Rattle.std.specs.Prelude.{ℕ, ◌+◌, ◌==◌, Bool, not, ◌&&◌, ◌||◌, nat_le, Option, List, find, option_map}
+use Rattle.std.specs.Prelude.{ℕ, ◌+◌, ◌≤◌, ◌==◌, Bool, not, ◌&&◌, ◌||◌, nat_le, Option, List, find, option_map}
 use Rattle.pw_tree.specs.declared.expr.BasicType.{BasicType}
-use Rattle.pw_tree.specs.declared.expr.Qualifier.{Qualifier}
-use Rattle.pw_tree.specs.declared.expr.Qualifier.TheVariants as qualifier
 use Rattle.pw_types.specs.declared.kind.IntKind.{IntKind}
 use Rattle.pw_types.specs.TypeTrees.{QType, type_of}
 use Rattle.pw_check_rules.specs.Kinds.{is_const_object, is_volatile_object, is_function}
@@ -20,7 +18,6 @@ lawful_qualifiers constants volatiles ty =
     && (nat_le (volatiles + truth (is_volatile_object ty)) 1
     && not ((not (constants == 0) || not (volatiles == 0)) && is_function (type_of ty)))
 
--- how often a qualifier was gathered
-abbrev pub count_of : Qualifier → Gathered → ℕ
-count_of qualifier.Const g = g.constants
-count_of qualifier.Volatile g = g.volatiles
+-- each qualifier was gathered so often at most
+abbrev pub AreAtMost : ℕ → Gathered → Type 0
+AreAtMost limit g = (g.constants ≤ limit) × (g.volatiles ≤ limit)

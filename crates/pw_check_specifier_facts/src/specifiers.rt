@@ -1,11 +1,11 @@
 //! Lists of specifiers (C90 6.5.1 to 6.5.3).
 
-ghost use Rattle.std.specs.Prelude.{◌≡◌, ◌≢◌, ◌+◌, ◌-◌, ◌^◌, nat_le, IfOk, IfErr, OnErr};
+ghost use Rattle.std.specs.Prelude.{◌≡◌, ◌≢◌, ◌+◌, ◌-◌, ◌^◌, nat_le, IfOk, IfErr};
 ghost use Rattle.pw_check_state.specs.Follows.{Follows};
 ghost use Rattle.pw_check_state.specs.PhraseViews.{view_gathered, view_specified};
 ghost use Rattle.pw_check_state.specs.StateViews.{view_state};
 ghost use Rattle.pw_check_rules.specs.Constants.{truth};
-ghost use Rattle.pw_check_specifier_facts.specs.Rows.{count_of, lawful_qualifiers};
+ghost use Rattle.pw_check_specifier_facts.specs.Rows.{AreAtMost, lawful_qualifiers};
 ghost use Rattle.pw_check_rules.specs.SpecifierLists as spec;
 ghost use Rattle.pw_types.specs.Views.{view_qtype};
 
@@ -40,28 +40,17 @@ pub fn gather_storage(storage: StorageClass, gathered: Gathered) -> Result<Gathe
     Ok(gathered)
 }
 
-/// One more of what was counted. What 64 bits cannot count is want of memory.
-fn one_more(count: usize) -> Result<usize, AllocError>
-    ensures more { IfOk result (λ n. n ≡ count + 1) }
-    ensures wants { OnErr result (count ≡ 2 ^ 64 - 1) }
-{
-    match count.checked_add(1) {
-        Some(more) => Ok(more),
-        None => Err(AllocError),
-    }
-}
-
-/// What was gathered with a qualifier more. What 64 bits cannot count is want of memory.
-pub fn gather_qualifier(qualifier: Qualifier, gathered: Gathered) -> Result<Gathered, AllocError>
-    ensures gathers { IfOk result (λ g. view_gathered g ≡ spec.gather_qualifier qualifier (view_gathered gathered)) }
-    ensures wants { OnErr result (count_of qualifier (view_gathered gathered) ≡ 2 ^ 64 - 1) }
+/// What was gathered with a qualifier more.
+pub fn gather_qualifier(qualifier: Qualifier, gathered: Gathered) -> Gathered
+    requires { AreAtMost (2 ^ 64 - 2) (view_gathered gathered) }
+    ensures { view_gathered result ≡ spec.gather_qualifier qualifier (view_gathered gathered) }
 {
     let mut gathered = gathered;
     match qualifier {
-        Qualifier::Const => gathered.constants = one_more(gathered.constants)?,
-        Qualifier::Volatile => gathered.volatiles = one_more(gathered.volatiles)?,
+        Qualifier::Const => gathered.constants += 1,
+        Qualifier::Volatile => gathered.volatiles += 1,
     }
-    Ok(gathered)
+    gathered
 }
 
 /// What was gathered with a keyword of a type more.

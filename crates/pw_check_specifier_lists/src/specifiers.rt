@@ -1,6 +1,6 @@
 //! Lists of specifiers (C90 6.5.1 to 6.5.3).
 
-ghost use Rattle.std.specs.Prelude.{◌≡◌, ◌-◌, ◌^◌, Err, IfErr, OnErr};
+ghost use Rattle.std.specs.Prelude.{◌≡◌, ◌-◌, ◌^◌, Err, IfErr};
 ghost use Rattle.pw_check_rules.specs.Declarations.{specified_rule};
 ghost use Rattle.pw_check_rules.specs.Leaves as leaves;
 ghost use Rattle.pw_check_rules.specs.Phrases as spec;
@@ -9,7 +9,7 @@ ghost use Rattle.pw_check_state.specs.Follows.{Follows, Leads};
 ghost use Rattle.pw_check_state.specs.PhraseViews.{view_gathered, view_name, view_specified};
 ghost use Rattle.pw_check_state.specs.StateViews.{view_state};
 ghost use Rattle.pw_check_specifier_lists.specs.Specifying as turns;
-ghost use Rattle.pw_check_specifier_facts.specs.Rows.{count_of};
+ghost use Rattle.pw_check_specifier_facts.specs.Rows.{AreAtMost};
 ghost use Rattle.pw_tree.specs.Trees.{NoSpecifier};
 ghost use Rattle.pw_tree.specs.Views.{view_enumerators, view_members, view_specifier, view_specifiers, view_tag, view_word};
 ghost use Rattle.pw_types.specs.Views.{view_qtype};
@@ -140,18 +140,18 @@ fn storage_class(
     Ok(gather_storage(class, gathered)?)
 }
 
-/// A type qualifier (C90 6.5.3). What 64 bits cannot count is want of memory.
+/// A type qualifier (C90 6.5.3).
 #[tactic(auto, unfolding(pw_check_walk::specs::Walks::outcome))]
 fn type_qualifier(
     state: &State,
     qualifier: Qualifier,
     gathered: Gathered,
 ) -> Result<Gathered, CheckFault>
-    ensures follows { Follows view_gathered (pure (lists.gather_qualifier qualifier (view_gathered gathered))) (view_state state.now) result }
-    ensures wants { OnErr result (count_of qualifier (view_gathered gathered) ≡ 2 ^ 64 - 1) }
+    requires { AreAtMost (2 ^ 64 - 2) (view_gathered gathered) }
+    ensures { Follows view_gathered (pure (lists.gather_qualifier qualifier (view_gathered gathered))) (view_state state.now) result }
 {
     let _state = state;
-    Ok(gather_qualifier(qualifier, gathered)?)
+    Ok(gather_qualifier(qualifier, gathered))
 }
 
 /// A structure or union with its members; its own limits stand at the token `spot`.
@@ -198,7 +198,8 @@ fn specifier<'a, P: Phrases<'a>>(
     first: usize,
     gathered: Gathered,
 ) -> Result<Gathered, CheckFault>
-    requires { P.can_check phrases.now }
+    requires phrases { P.can_check phrases.now }
+    requires room { AreAtMost (2 ^ 64 - 2) (view_gathered gathered) }
     ensures { Leads view_gathered (turns.first_specifier (view_specifier specifier.now NoSpecifier) first (view_gathered gathered)) (view_state state.old) result (view_state state.new) }
 {
     declarators_show_their_lists();

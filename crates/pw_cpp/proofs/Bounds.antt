@@ -62,3 +62,22 @@ header-within text start x e = by (slice_index text start == 34) (slice_index te
     by true c e = before text (start + 1) 34 x (omega arith) e
     by false true e = before text (start + 1) 62 x (omega arith) e
     by false false e = absurd (false≢true (ap is_some e))
+
+-- and begins behind the opening one
+name_start : (text : List ℕ) (at quote : ℕ) (x : Span) → name_before text at quote ≡ Some x → x.at ≡ at
+name_start text at quote x e = by (slice_index text (at + len) == quote) e
+  where
+    len : ℕ
+    len = prefix_len (is_name_byte quote) (drop at text)
+
+    by : (b : Bool) → (if b then Some (record { at = at; len = len }) else None) ≡ Some x → x.at ≡ at
+    by true e = let is : record { at = at; len = len } ≡ x = ap (span_or (record { at = at; len = len })) e in sym (ap (λ (y : Span). y.at) is)
+    by false e = absurd (false≢true (ap is_some e))
+
+pub header-start : (text : List ℕ) (start : ℕ) (x : Span) → header_name text start ≡ Some x → x.at ≡ start + 1
+header-start text start x e = by (slice_index text start == 34) (slice_index text start == 60) e
+  where
+    by : (b c : Bool) → name_behind text (start + 1) (if b then Some 34 else (if c then Some 62 else None)) ≡ Some x → x.at ≡ start + 1
+    by true c e = name_start text (start + 1) 34 x e
+    by false true e = name_start text (start + 1) 62 x e
+    by false false e = absurd (false≢true (ap is_some e))

@@ -7,7 +7,7 @@ use Rattle.pw_cpp.specs.Answers.{AnswersStep, DoesInclude, DoesQuoted, IsAt, IsF
 use Rattle.pw_cpp.specs.Files as file
 use Rattle.pw_cpp.specs.Files.{Includes, IncludesHeader, IncludesQuoted, Reading, Step, Stops, is_wrong_include, name_of, quoted_name}
 use Rattle.pw_cpp.specs.declared.reader.Reader.{Reader}
-use Rattle.pw_cpp.proofs.Bounds.{header-within}
+use Rattle.pw_cpp.proofs.Bounds.{header-start, header-within}
 use Rattle.pw_cpp.proofs.Headers.{IsNumbered, number-found, number-missing}
 use Rattle.pw_cpp.proofs.Lines.{step-as}
 use Rattle.pw_cpp_directives.specs.Directives.{fault}
@@ -30,6 +30,14 @@ quoted-within text start x e = by (nat_lt start (length text)) (sym e)
   where
     by : (b : Bool) → (if b then header_name text start else None) ≡ Some x → x.at + x.len < length text
     by true e = header-within text start x e
+    by false e = absurd (false≢true (ap is_some e))
+
+-- and begins behind the opening one
+pub quoted-start : (text : List ℕ) (start : ℕ) (x : Span) → Some x ≡ quoted_name text start → x.at ≡ start + 1
+quoted-start text start x e = by (nat_lt start (length text)) (sym e)
+  where
+    by : (b : Bool) → (if b then header_name text start else None) ≡ Some x → x.at ≡ start + 1
+    by true e = header-start text start x e
     by false e = absurd (false≢true (ap is_some e))
 
 module _ (old : Reader) (f : File) (text : List ℕ) (read : IsRead old f text) (digits : Digits) (depth hash : ℕ) where

@@ -7,3 +7,4 @@ pub mod Lines
 pub mod WholeFiles
 pub mod OneFile
 pub mod Including
+pub mod GoingOn

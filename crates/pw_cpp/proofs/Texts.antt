@@ -1,5 +1,5 @@
 -- What a text line comes to, and the rows in which it is put out.
-use Rattle.std.proofs.Common.{◌≡◌, ℕ, ◌≤◌, ◌+◌, Bool, true, false, List, [], ◌∷◌, ◌++◌, length, map, reverse, if◌then◌else◌, Result, Ok, Err, inl, inr, ◌⊎◌, refl, sym, ap, ◌∙◌, subst, arith}
+use Rattle.std.proofs.Common.{◌≡◌, ℕ, ◌≤◌, ◌<◌, ◌+◌, Bool, true, false, List, [], ◌∷◌, ◌++◌, length, map, reverse, if◌then◌else◌, Result, Ok, Err, inl, inr, ◌⊎◌, refl, sym, ap, ◌∙◌, subst, arith}
 use Rattle.std.proofs.lemmas.Bool.{leb-false}
 use Rattle.std.proofs.lemmas.List.Concat.{flat_map-append}
 use Rattle.std.specs.Prelude.{IfOk, nat_le}
@@ -81,6 +81,12 @@ abbrev pub TokensInOrder : Type 0
 TokensInOrder = (source text : List ℕ) (macros : Macros) (pending out : List Lexeme) (p q : Progress) (low first : ℕ) → Expands source text macros InText pending p (Done out q)
     → StandBetween low pending p.next → AreReadFrom first p → StandBetween low out q.next × AreReadFrom first q
 
+abbrev pub LineGoesOn : Type 0
+LineGoesOn = (text : List ℕ) (at : ℕ) (p q : Progress) (tokens : List Token) → ReadsOn text at p (Tokens tokens q) → at < q.next
+
+abbrev pub TokensGoOn : Type 0
+TokensGoOn = (source text : List ℕ) (macros : Macros) (pending out : List Lexeme) (p q : Progress) → Expands source text macros InText pending p (Done out q) → p.next ≤ q.next
+
 module _ (source : List ℕ) (old new : Kept) (text : List ℕ) (at : ℕ) (p : Progress) where
   pub text-unread : (q : Progress) (fault : ExpandFault) → IsFault fault (λ f. ReadsOn text at p (Unread f)) → AnswersText source old new text at p q (Err fault)
   text-unread q fault (inl m) = inl m
@@ -94,6 +100,12 @@ module _ (source : List ℕ) (old new : Kept) (text : List ℕ) (at : ℕ) (p : 
       (record { tokens = tokens; middle = m; reads = h; expands = x.0 }, x.3, x.4, in_rows new.sets first.0 q.rows out q.next all.0 all.1.0 all.1.1)
   text-expanded line order e tokens m q (Err fault) h (inl m') = inl m'
   text-expanded line order e tokens m q (Err fault) h (inr x) = inr (inr (record { tokens = tokens; middle = m; reads = h; expands = x }))
+
+  -- the text is further on behind it
+  pub text-on : LineGoesOn → TokensGoOn → (tokens : List Token) (m q : Progress) (result : Result (List Numbered) ExpandFault) → ReadsOn text at p (Tokens tokens m)
+      → AnswersExpansion source text old.macros InText old.sets (map fresh tokens) m new.sets q result → IfOk result (λ x. at < q.next)
+  text-on line on tokens m q (Ok out) h x = omega (arith, line text at p m tokens h, on source text old.macros (map fresh tokens) (all_named new.sets out) m q x.0)
+  text-on line on tokens m q (Err fault) h x = tt
 
   -- the sets that were known keep their numbers
   pub same-sets : (tokens : List Token) (m q : Progress) (result : Result (List Numbered) ExpandFault) → AnswersExpansion source text old.macros InText old.sets (map fresh tokens) m new.sets q result

@@ -11,7 +11,10 @@ ghost use Rattle.pw_cpp_directives.specs.Obeying.{IsFaultOf};
 use crate::reader::{Reader, bytes_before, name_in, no_memory};
 use crate::way::{Way, way_of};
 use pw_cpp_directives::{CppKind, CppWhich, Fault, faulty, limit};
-use pw_cpp_lines::{Head, Line, Span, head_of, header_name, pass_line, pass_rest, pass_space};
+use pw_cpp_lines::{
+    Head, Line, Span, head_of, header_name, heads_stand_behind, lines_go_on, pass_line, pass_rest,
+    pass_space,
+};
 use pw_cpp_sources::{DEPTH_LIMIT, HEADER_NAME_LIMIT, Place, is_header};
 use pw_items::Items;
 use pw_token::TEXT_LIMIT;
@@ -121,10 +124,6 @@ impl<'a> Reader<'a> {
         let mut at = span.from;
         while at < text.len() {
             let next = self.read_line(text, at, depth)?;
-            // No line ends where it begins, but that is not proved.
-            if next <= at {
-                return Err(no_memory(at));
-            }
             at = next;
         }
         if !self.standing.sections.is_empty() {
@@ -141,9 +140,11 @@ impl<'a> Reader<'a> {
         requires matched { length self.old.files.now ≡ length self.old.spans.now }
         requires within { IsWithin self.old }
         ensures keeps { Keeps self.old self.new }
-        ensures within { IfOk result (λ next. IsWithin self.new × (next ≤ length text.now)) }
+        ensures within { IfOk result (λ next. IsWithin self.new × (next ≤ length text.now) × (at < next)) }
         ensures steps { (file : File) → IsRead self.old file text.now → AnswersStep self.old self.new (DoesLine self.old.source.now (reads_of self.old) digits_of depth file at) result }
     {
+        heads_stand_behind();
+        lines_go_on();
         match head_of(text, at) {
             Head::Marker { hash } => Ok(pass_rest(text, hash)),
             Head::Text => {
@@ -204,7 +205,7 @@ impl<'a> Reader<'a> {
         requires matched { length self.old.files.now ≡ length self.old.spans.now }
         requires within { IsWithin self.old }
         ensures keeps { Keeps self.old self.new }
-        ensures within { IfOk result (λ next. IsWithin self.new × (next ≤ length text.now)) }
+        ensures within { IfOk result (λ next. IsWithin self.new × (next ≤ length text.now) × (name.at + name.len < next)) }
         ensures steps { (file : File) → IsRead self.old file text.now → AnswersStep self.old self.new (DoesQuoted self.old.source.now (reads_of self.old) digits_of depth file hash name) result }
     {
         let line = self.lexed(text, name.at + name.len + 1)?;
@@ -235,9 +236,10 @@ impl<'a> Reader<'a> {
         requires head { IsHead text.now at (Head.Directive hash name) }
         requires within { IsWithin self.old }
         ensures keeps { Keeps self.old self.new }
-        ensures within { IfOk result (λ next. IsWithin self.new × (next ≤ length text.now)) }
+        ensures within { IfOk result (λ next. IsWithin self.new × (next ≤ length text.now) × (at < next)) }
         ensures steps { (file : File) → IsRead self.old file text.now → AnswersStep self.old self.new (DoesInclude self.old.source.now (reads_of self.old) digits_of depth file hash name) result }
     {
+        heads_stand_behind();
         let behind = name.at + name.len;
         let start = pass_space(text, behind);
         let Some(header) = quoted_at(text, start) else {

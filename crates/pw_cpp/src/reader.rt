@@ -8,14 +8,16 @@ ghost use Rattle.pw_cpp_directives.specs.Groups.{is_reading};
 ghost use Rattle.pw_cpp_expand.specs.AtHand.{IsWithinLimits};
 ghost use Rattle.pw_cpp_expand.specs.Numbered.{HaveEmpty};
 ghost use Rattle.pw_cpp_lines.specs.Heads.{IsHead};
+ghost use Rattle.pw_cpp_lines.specs.Lines.{IsBehind};
 ghost use Rattle.pw_cpp_sources.specs.Sources.{File, digits_of};
 
 use crate::passing::pass_name;
 use pw_cpp_directives::{CppKind, Directive, Fault, Standing, faulty, of_expansion};
 use pw_cpp_expand::{
-    ExpandFault, Lexeme, Progress, expand_text, line_in_order, read_line, tokens_in_order,
+    ExpandFault, Lexeme, Progress, expand_text, line_in_order, read_line, text_goes_on,
+    tokens_in_order,
 };
-use pw_cpp_lines::{Head, Line, LineFault, Span, lex_line, pass_line};
+use pw_cpp_lines::{Head, Line, LineFault, Span, lex_line, lines_go_on, pass_line};
 use pw_cpp_sources::{Place, digits, put_rows};
 use pw_items::Items;
 use pw_token::{Token, text_from};
@@ -78,9 +80,11 @@ fn expanded<'a>(
     requires empty { HaveEmpty standing.old.sets }
     requires first { progress.old.rows ≡ [] }
     ensures same { IfOk result (λ _. IsSame standing.old standing.new) }
+    ensures on { IfOk result (λ _. at < progress.new.next) }
     ensures expands { AnswersText source.now standing.old standing.new text.now at progress.old progress.new result }
 {
     line_in_order();
+    text_goes_on();
     tokens_in_order();
     let tokens = read_line(alloc, text, at, progress)?;
     expand_text(
@@ -100,7 +104,9 @@ impl<'a> Reader<'a> {
         requires { at ≤ length text.now }
         ensures lexes { IsLexed text.now at result }
         ensures within { IfOk result (λ line. line.next ≤ length text.now) }
+        ensures behind { IfOk result (λ line. IsBehind text.now at line.next) }
     {
+        lines_go_on();
         match lex_line(self.alloc, text, at) {
             Ok(line) => Ok(line),
             Err(LineFault::Bad { at }) => Err(faulty(CppKind::Lex, at)),
@@ -129,9 +135,10 @@ impl<'a> Reader<'a> {
         requires place { at < length text.now }
         requires within { IsWithin self.old }
         ensures keeps { Keeps self.old self.new }
-        ensures within { IfOk result (λ next. IsWithin self.new × (next ≤ length text.now)) }
+        ensures within { IfOk result (λ next. IsWithin self.new × (next ≤ length text.now) × (at < next)) }
         ensures steps { (file : File) → IsRead self.old file text.now → AnswersStep self.old self.new (DoesPassed self.old.source.now file at hash name) result }
     {
+        lines_go_on();
         let next = pass_line(text, at);
         match pass_name(&mut self.standing.nested, name_in(text, name)) {
             Ok(true) => Ok(next),
@@ -167,7 +174,7 @@ impl<'a> Reader<'a> {
         requires place { hash < length text.now }
         requires within { IsWithin self.old }
         ensures keeps { Keeps self.old self.new }
-        ensures within { IfOk result (λ next. IsWithin self.new × (next ≤ length text.now)) }
+        ensures within { IfOk result (λ next. IsWithin self.new × (next ≤ length text.now) × (hash < next)) }
         ensures steps { (file : File) → IsRead self.old file text.now → AnswersStep self.old self.new (DoesWhole self.old.source.now digits_of file hash name) result }
     {
         let line = self.lexed(text, hash)?;
@@ -181,7 +188,7 @@ impl<'a> Reader<'a> {
         requires head { IsHead text.now at Head.Text }
         requires within { IsWithin self.old }
         ensures keeps { Keeps self.old self.new }
-        ensures within { IfOk result (λ next. IsWithin self.new × (next ≤ length text.now)) }
+        ensures within { IfOk result (λ next. IsWithin self.new × (next ≤ length text.now) × (at < next)) }
         ensures steps { (file : File) → IsRead self.old file text.now → AnswersStep self.old self.new (DoesText self.old.source.now file at) result }
     {
         let mut progress = Progress {

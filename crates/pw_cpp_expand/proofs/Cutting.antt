@@ -1,5 +1,5 @@
 -- The arguments of a call, as they are cut.
-use Rattle.std.proofs.Common.{◌≡◌, ℕ, ◌+◌, ◌-◌, ◌<◌, ◌≤◌, ◌==◌, Bool, true, false, List, [], ◌∷◌, ◌++◌, length, map, refl, sym, ap, ◌∙◌, subst, All, arith}
+use Rattle.std.proofs.Common.{◌≡◌, ℕ, ◌+◌, ◌-◌, ◌<◌, ◌≤◌, ◌==◌, Bool, true, false, List, [], ◌∷◌, ◌++◌, length, length-append, map, refl, sym, ap, ◌∙◌, subst, All, arith}
 use Rattle.std.proofs.lemmas.List.Elements.{All-nil, All-push}
 use Rattle.std.specs.Prelude.{if◌then◌else◌}
 use Rattle.std.proofs.lemmas.List.{map-append}
@@ -146,6 +146,14 @@ put-depth (cut.Within m) kind depth mark whole whole' last last' inner is no_end
     of_kind part.GoesOn e = omega (arith, same m depth e)
 put-depth cut.Next kind depth mark whole whole' last last' inner is no_end put = omega (arith, put.2)
 put-depth cut.Ends kind depth mark whole whole' last last' inner is no_end put = absurd (no_end refl)
+
+-- and each stands in the argument
+pub put-within : (what : Cut) (kind : Part) (depth : ℕ) (mark : Numbered) (whole whole' : List (List Numbered)) (last last' : List Numbered) (inner : ℕ) → what ≡ cut_of kind depth → (what ≡ cut.Ends → ⊥)
+    → IsPut what mark whole last whole' last' inner → depth ≤ length last → inner ≤ length last'
+put-within (cut.Within m) kind depth mark whole whole' last last' inner is no_end put l =
+    omega (arith, put-depth (cut.Within m) kind depth mark whole whole' last last' inner is no_end put, ap length put.1, length-append last (mark ∷ []), l)
+put-within cut.Next kind depth mark whole whole' last last' inner is no_end put l = omega (arith, put.2)
+put-within cut.Ends kind depth mark whole whole' last last' inner is no_end put l = absurd (no_end refl)
 
 -- and the sets of all are known
 pub put-known : (known : Known) (what : Cut) (mark : Numbered) (whole whole' : List (List Numbered)) (last last' : List Numbered) (inner : ℕ) → (what ≡ cut.Ends → ⊥) → IsPut what mark whole last whole' last' inner

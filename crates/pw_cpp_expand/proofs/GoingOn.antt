@@ -1,5 +1,5 @@
 -- A text goes on: what is read of it is further on, and has no more tokens than bytes.
-use Rattle.std.proofs.Common.{◌≡◌, ℕ, ◌+◌, ◌<◌, ◌≤◌, Bool, true, false, if◌then◌else◌, List, [], ◌∷◌, ◌++◌, length, map, length-append, Result, Ok, Err, sym, subst, arith}
+use Rattle.std.proofs.Common.{◌≡◌, ℕ, ◌+◌, ◌<◌, ◌≤◌, Bool, true, false, if◌then◌else◌, List, [], ◌∷◌, ◌++◌, length, map, length-append, Result, Ok, Err, refl, sym, ◌∙◌, subst, arith}
 use Rattle.std.proofs.lemmas.List.{length-map}
 use Rattle.std.specs.Prelude.{nat_le}
 use Rattle.pw_token.specs.declared.token.Token.{Token}
@@ -26,27 +26,27 @@ HasFewTokens = (text : List ℕ) (at : ℕ) (line : Line) → Lexes text at (Ok 
 
 -- ---- the next line
 
--- the tokens of what is read from a place on are no more than its bytes
-abbrev IsFewFurther : ℕ → Further → Type 0
-IsFewFurther at Nothing = Unit {0}
-IsFewFurther at (Tokens tokens q) = at + length tokens ≤ q.next
-IsFewFurther at (Fault fault) = Unit {0}
+-- the tokens of what is read from a place on are no more than its bytes, and none is produced
+abbrev IsFewFurther : ℕ → Progress → Further → Type 0
+IsFewFurther at p Nothing = Unit {0}
+IsFewFurther at p (Tokens tokens q) = (at + length tokens ≤ q.next) × (q.produced ≡ p.produced)
+IsFewFurther at p (Fault fault) = Unit {0}
 
-few_from : (at next : ℕ) (x : Further) → at ≤ next → IsFewFurther next x → IsFewFurther at x
-few_from at next Nothing l h = tt
-few_from at next (Tokens tokens q) l h = omega (arith, l, h)
-few_from at next (Fault fault) l h = tt
+few_from : (at next : ℕ) (p : Progress) (x : Further) → at ≤ next → IsFewFurther next p x → IsFewFurther at p x
+few_from at next p Nothing l h = tt
+few_from at next p (Tokens tokens q) l h = (omega (arith, l, h.0), h.1)
+few_from at next p (Fault fault) l h = tt
 
 -- ---- the next token
 
--- so many tokens are at hand, with what is left of the text no more than were before
+-- so many tokens are at hand, with what is left of the text no more than were before, and none is produced
 abbrev pub IsFewAhead : ℕ → Progress → Ahead → Type 0
-IsFewAhead count p (At tokens q) = (p.next ≤ q.next) × (length tokens + p.next ≤ count + q.next)
+IsFewAhead count p (At tokens q) = (p.next ≤ q.next) × (length tokens + p.next ≤ count + q.next) × (q.produced ≡ p.produced)
 IsFewAhead count p (Faulty fault) = Unit {0}
 
-ahead_from : (count : ℕ) (p q : Progress) (x : Ahead) → p.next + count ≤ q.next → IsFewAhead count q x → IsFewAhead 0 p x
-ahead_from count p q (At tokens r) l h = (omega (arith, l, h.0), omega (arith, l, h.1))
-ahead_from count p q (Faulty fault) l h = tt
+ahead_from : (count : ℕ) (p q : Progress) (x : Ahead) → p.next + count ≤ q.next → q.produced ≡ p.produced → IsFewAhead count q x → IsFewAhead 0 p x
+ahead_from count p q (At tokens r) l e h = (omega (arith, l, h.0), omega (arith, l, h.1), h.2 ∙ e)
+ahead_from count p q (Faulty fault) l e h = tt
 
 -- ---- the arguments of a call
 
@@ -70,47 +70,47 @@ next_weight [] = omega arith
 next_weight (argument ∷ arguments) = omega (arith, next_weight arguments)
 
 abbrev pub IsFewCalled : ℕ → Progress → Called → Type 0
-IsFewCalled count p (Closed arguments close behind q) = (p.next ≤ q.next) × (weight arguments + length behind + 1 + p.next ≤ count + q.next)
+IsFewCalled count p (Closed arguments close behind q) = (p.next ≤ q.next) × (weight arguments + length behind + 1 + p.next ≤ count + q.next) × (q.produced ≡ p.produced)
 IsFewCalled count p Open = Unit {0}
 IsFewCalled count p (Fails fault) = Unit {0}
 
-pub called-from : (count other : ℕ) (p q : Progress) (x : Called) → p.next ≤ q.next → other + p.next ≤ count + q.next → IsFewCalled other q x → IsFewCalled count p x
-called-from count other p q (Closed arguments close behind r) k l h = (omega (arith, k, h.0), omega (arith, l, h.1))
-called-from count other p q Open k l h = tt
-called-from count other p q (Fails fault) k l h = tt
+pub called-from : (count other : ℕ) (p q : Progress) (x : Called) → p.next ≤ q.next → other + p.next ≤ count + q.next → q.produced ≡ p.produced → IsFewCalled other q x → IsFewCalled count p x
+called-from count other p q (Closed arguments close behind r) k l e h = (omega (arith, k, h.0), omega (arith, l, h.1), h.2 ∙ e)
+called-from count other p q Open k l e h = tt
+called-from count other p q (Fails fault) k l e h = tt
 
 module _ (few : HasFewTokens) (text : List ℕ) where
-  of_line_few : (at : ℕ) (p : Progress) (found : Result Line LineFault) → Lexes text at found → IsFewFurther at (of_text_line at p found)
+  of_line_few : (at : ℕ) (p : Progress) (found : Result Line LineFault) → Lexes text at found → IsFewFurther at p (of_text_line at p found)
   of_line_few at p (Ok line) h = by (nat_le output_limit p.size)
     where
-      by : (b : Bool) → IsFewFurther at (if b then Fault (Length at) else Tokens line.tokens (read_to p at line.next))
+      by : (b : Bool) → IsFewFurther at p (if b then Fault (Length at) else Tokens line.tokens (read_to p at line.next))
       by true = tt
-      by false = few text at line h
+      by false = (few text at line h, refl)
   of_line_few at p (Err fault) h = tt
 
   mutual
-    reads_few : (at : ℕ) (p : Progress) (x : Further) → ReadsOn text at p x → IsFewFurther at x
+    reads_few : (at : ℕ) (p : Progress) (x : Further) → ReadsOn text at p x → IsFewFurther at p x
     reads_few at p x (look.ends _ _ l) = tt
     reads_few at p x (look.reads _ _ what _ w h r) = reads_as_few at p what x w h r
 
-    reads_as_few : (at : ℕ) (p : Progress) (what : Head) (x : Further) → at < length text → IsHead text at what → ReadsAs text at p what x → IsFewFurther at x
+    reads_as_few : (at : ℕ) (p : Progress) (what : Head) (x : Further) → at < length text → IsHead text at what → ReadsAs text at p what x → IsFewFurther at p x
     reads_as_few at p what x w h (look.directive _ _ hash name) = tt
     reads_as_few at p what x w h (look.marker _ _ hash next _ r k) =
         let inside = hash-within text at hash h in
-        few_from at next x (omega (arith, inside.0, rest-on text hash next r inside.1)) (reads_few next p x k)
+        few_from at next p x (omega (arith, inside.0, rest-on text hash next r inside.1)) (reads_few next p x k)
     reads_as_few at p what x w h (look.text_line _ _ found _ l e) =
-        let P : Further → Type 0 = λ z. IsFewFurther at z in subst P (sym e) (of_line_few at p found l)
+        let P : Further → Type 0 = λ z. IsFewFurther at p z in subst P (sym e) (of_line_few at p found l)
 
   mutual
     pub looks-few : (mode : Mode) (pending : List Lexeme) (p : Progress) (x : Ahead) → LooksAhead text mode pending p x → IsFewAhead (length pending) p x
-    looks-few mode pending p x (look.here _ t rest _) = (omega arith, omega arith)
-    looks-few mode pending p x (look.alone _) = (omega arith, omega arith)
+    looks-few mode pending p x (look.here _ t rest _) = (omega arith, omega arith, refl)
+    looks-few mode pending p x (look.alone _) = (omega arith, omega arith, refl)
     looks-few mode pending p x (look.on _ found _ r k) = looks_on_few p found x k (reads_few p.next p found r)
 
-    looks_on_few : (p : Progress) (found : Further) (x : Ahead) → LooksOn text p found x → IsFewFurther p.next found → IsFewAhead 0 p x
-    looks_on_few p found x (look.nothing _) f = (omega arith, omega arith)
+    looks_on_few : (p : Progress) (found : Further) (x : Ahead) → LooksOn text p found x → IsFewFurther p.next p found → IsFewAhead 0 p x
+    looks_on_few p found x (look.nothing _) f = (omega arith, omega arith, refl)
     looks_on_few p found x (look.further _ q tokens _ k) f =
-        ahead_from (length (map fresh tokens)) p q x (omega (arith, f, length-map tokens fresh)) (looks-few InText (map fresh tokens) q x k)
+        ahead_from (length (map fresh tokens)) p q x (omega (arith, f.0, length-map tokens fresh)) f.1 (looks-few InText (map fresh tokens) q x k)
     looks_on_few p found x (look.faulty _ fault) f = tt
 
   module _ (source : List ℕ) (mode : Mode) where
@@ -124,14 +124,14 @@ module _ (few : HasFewTokens) (text : List ℕ) where
       from_ahead_few depth arguments count p ahead x s h (call.open_end _ _ q) = tt
       from_ahead_few depth arguments count p ahead x s h (call.faulty _ _ fault) = tt
       from_ahead_few depth arguments count p ahead x s h (call.one_token _ _ t rest q _ c) =
-          called-from (weight arguments + count) (weight arguments + length (t ∷ rest)) p q x h.0 (omega (arith, h.1)) (from_cut_few _ arguments t rest q x s c)
+          called-from (weight arguments + count) (weight arguments + length (t ∷ rest)) p q x h.0 (omega (arith, h.1)) h.2 (from_cut_few _ arguments t rest q x s c)
 
       from_cut_few : (what : Cut) (arguments : List (List Lexeme)) (t : Lexeme) (rest : List Lexeme) (q : Progress) (x : Called) → 0 < length arguments
           → CollectsCut source text mode what arguments t rest q x → IsFewCalled (weight arguments + length (t ∷ rest)) q x
       from_cut_few what arguments t rest q x s (call.within depth _ _ _ _ _ c) =
-          called-from (weight arguments + length (t ∷ rest)) (weight (lengthened arguments t) + length rest) q q x (omega arith) (omega (arith, lengthened_weight arguments t s))
+          called-from (weight arguments + length (t ∷ rest)) (weight (lengthened arguments t) + length rest) q q x (omega arith) (omega (arith, lengthened_weight arguments t s)) refl
           (collects-few depth (lengthened arguments t) rest q x (lengthened_some arguments t) c)
       from_cut_few what arguments t rest q x s (call.next _ _ _ _ _ c) =
-          called-from (weight arguments + length (t ∷ rest)) (weight (arguments ++ [] ∷ []) + length rest) q q x (omega arith) (omega (arith, next_weight arguments))
+          called-from (weight arguments + length (t ∷ rest)) (weight (arguments ++ [] ∷ []) + length rest) q q x (omega arith) (omega (arith, next_weight arguments)) refl
           (collects-few 0 (arguments ++ [] ∷ []) rest q x (omega (arith, length-append arguments ([] ∷ []))) c)
-      from_cut_few what arguments t rest q x s (call.ends _ _ _ _) = (omega arith, omega arith)
+      from_cut_few what arguments t rest q x s (call.ends _ _ _ _) = (omega arith, omega arith, refl)

@@ -10,3 +10,4 @@ pub mod Results
 pub mod ReadCalls
 pub mod Places
 pub mod GoingOn
+pub mod Falling

@@ -557,7 +557,7 @@ module _ (few : HasFewTokens) (source text : List ℕ) (macros : Macros) where
   meets_on count t m parameters ahead p turn h (by.uncalled _ _ _ _ tokens q n) = h.0
   meets_on count t m parameters ahead p turn h (by.called _ _ mark _ _ behind q found _ n c k) =
       calls_on (count + 1) m parameters t found p turn
-      (called-from (count + 1) (weight ([] ∷ []) + length behind) p q found h.0 (omega (arith, h.1)) (collects-few few text source InText 0 ([] ∷ []) behind q found (omega arith) c)) k
+      (called-from (count + 1) (weight ([] ∷ []) + length behind) p q found h.0 (omega (arith, h.1)) h.2 (collects-few few text source InText 0 ([] ∷ []) behind q found (omega arith) c)) k
 
   turns_on : (t : Lexeme) (rest : List Lexeme) (p : Progress) (m : Option Macro) (turn : Turn) → Turns source text macros InText t rest p m turn → IsTurnOn p turn
   turns_on t rest p m turn (by.no_macro _ _ _ _) = omega arith

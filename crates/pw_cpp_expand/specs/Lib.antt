@@ -4,3 +4,4 @@ pub mod Expansion
 pub mod Lookahead
 pub mod Numbered
 pub mod Places
+pub mod Left

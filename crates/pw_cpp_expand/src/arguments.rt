@@ -7,6 +7,7 @@ ghost use Rattle.pw_cpp_sets.specs.Sets.{Known};
 
 use crate::ahead::look_ahead;
 use crate::progress::{ExpandFault, Lexeme, Mode, Progress};
+use pw_cpp_lines::lines_go_on;
 use pw_cpp_macros::is_spelled;
 use pw_items::Items;
 use std::alloc::{AllocError, Global};
@@ -86,9 +87,9 @@ fn put(
     cut: Cut,
     lexeme: Lexeme,
     whole: &mut Items<Items<Lexeme>>,
-    last: &mut Items<Lexeme>,
+    last: &mut Vec<Lexeme>,
 ) -> Result<u64, AllocError>
-    ensures { IfOk result (λ depth. IsPut cut lexeme whole.old last.old whole.new last.new depth) }
+    ensures { IfOk result (λ depth. IsPut cut lexeme whole.old last.old.items whole.new last.new.items depth) }
 {
     match cut {
         Cut::Within(inner) => {
@@ -96,16 +97,15 @@ fn put(
             Ok(inner)
         }
         Cut::Next => {
-            let argument = std::mem::replace(last, Items::new(alloc));
-            whole.push(argument)?;
+            let argument = std::mem::replace(last, Vec::new(alloc));
+            whole.push(Items::from_vec(argument))?;
             Ok(0)
         }
         Cut::Ends => Ok(0),
     }
 }
 
-/// The arguments of a call from behind its `(` on, or None where the text ends before its `)`. So many tokens that 64 bits do not count
-/// them are want of memory.
+/// The arguments of a call from behind its `(` on, or None where the text ends before its `)`.
 pub fn collect(
     alloc: Global,
     source: &[u8],
@@ -120,10 +120,11 @@ pub fn collect(
     ensures known { IfOk result (λ _. (known : Known) → 0 < length known → AreKnown known pending.old → AreKnown known pending.new) }
     ensures arguments { (known : Known) → 0 < length known → AreKnown known pending.old → IfOk result (λ found. IfSome found (AreArgumentsKnown known)) }
 {
+    lines_go_on();
     let mut whole = Items::new(alloc);
-    let mut last = Items::new(alloc);
+    let mut last = Vec::new(alloc);
     let mut depth = 0;
-    for _turn in 0..u64::MAX {
+    loop {
         look_ahead(alloc, text, mode, pending, progress)?;
         let Some(lexeme) = pending.pop() else {
             return Ok(None);
@@ -135,17 +136,16 @@ pub fn collect(
         }
         depth = put(alloc, cut, lexeme, &mut whole, &mut last)?;
     }
-    Err(ExpandFault::NoMemory)
 }
 
 fn closed(
     whole: Items<Items<Lexeme>>,
-    last: Items<Lexeme>,
+    last: Vec<Lexeme>,
     close: Lexeme,
 ) -> Result<Arguments, AllocError>
-    ensures { IfOk result (λ found. (found.arguments ≡ whole ++ last ∷ []) × (found.close ≡ close)) }
+    ensures { IfOk result (λ found. (found.arguments ≡ whole ++ last.items ∷ []) × (found.close ≡ close)) }
 {
     let mut arguments = whole;
-    arguments.push(last)?;
+    arguments.push(Items::from_vec(last))?;
     Ok(Arguments { arguments, close })
 }

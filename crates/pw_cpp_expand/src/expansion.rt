@@ -1,9 +1,10 @@
 //! Expansion of tokens, on a stack of open calls.
 
-ghost use Rattle.std.specs.Prelude.{◌≡◌, ◌≤◌, ◌<◌, ◌+◌, ◌++◌, ◌∷◌, [], length, map, reverse, option_map, All, IfOk, IfSome, IsTrue, MatchOption, if◌then◌else◌, None, OnOk, Some, false, ◌↔◌};
+ghost use Rattle.std.specs.Prelude.{◌≡◌, ◌≤◌, ◌<◌, ◌+◌, ◌++◌, ◌∷◌, [], length, map, reverse, option_map, All, IfOk, IfSome, IsTrue, MatchOption, if◌then◌else◌, None, OnOk, Some, false, true, ◌↔◌};
 ghost use Rattle.pw_cpp_expand.specs.AtHand.{AnswersExpansion, AnswersRead, ComesTo, IsCallKnown, IsCallOpened, IsReadKnown, IsReady, IsReplacedBy, IsStep, IsWaiting, IsWithinLimits, PutsOut, PutsResult, mode_of, raw_named, waiting_for};
 ghost use Rattle.pw_cpp_expand.specs.Calls as cutting;
 ghost use Rattle.pw_cpp_expand.specs.Expansion as spec;
+ghost use Rattle.pw_cpp_expand.specs.Left.{left, left_of_call};
 ghost use Rattle.pw_cpp_expand.specs.Lookahead as ahead;
 ghost use Rattle.pw_cpp_expand.specs.Numbered.{AreKnown, HaveEmpty, all_named, at_hand, named, room_of};
 ghost use Rattle.pw_cpp_sets.specs.Sets.{Known};
@@ -12,6 +13,7 @@ use crate::ahead::{look_ahead, put_fresh};
 use crate::arguments::collect;
 use crate::progress::{ExpandFault, Lexeme, Mode, OUTPUT_LIMIT, PRODUCED_LIMIT, Progress};
 use crate::result::{Expanded, Replaced, is_used, result_of};
+use pw_cpp_lines::lines_go_on;
 use pw_cpp_macros::{Macro, Macros, is_spelled, is_word, spelled};
 use pw_cpp_sets::Sets;
 use pw_items::Items;
@@ -151,7 +153,8 @@ impl<'m> Expander<'m> {
     ) -> Result<(), ExpandFault>
         requires ready { IsReady ground.text.now sets.old self.old progress.old }
         requires call { IsCallKnown sets.old call }
-        ensures { IsStep ground.entry.source.now ground.entry.text.now ground.entry.macros.now ground.entry.mode sets.old (IsReplacedBy ground.entry.source.now ground.entry.text.now ground.entry.macros.now ground.entry.mode sets.old self.old call.entry progress.old) sets.new self.new progress.new result }
+        ensures left { IfOk result (λ _. left (length ground.entry.text.now) self.new progress.new ≤ left (length ground.entry.text.now) self.old progress.old + length call.entry.behind) }
+        ensures comes { IsStep ground.entry.source.now ground.entry.text.now ground.entry.macros.now ground.entry.mode sets.old (IsReplacedBy ground.entry.source.now ground.entry.text.now ground.entry.macros.now ground.entry.mode sets.old self.old call.entry progress.old) sets.new self.new progress.new result }
     {
         let Ground { alloc, source, .. } = ground;
         let meaning = call.meaning;
@@ -185,7 +188,8 @@ impl<'m> Expander<'m> {
         requires ready { IsReady ground.text.now sets.old self.old progress.old }
         requires call { IsCallKnown sets.old call }
         requires pending { self.old.pending ≡ [] }
-        ensures { IsStep ground.entry.source.now ground.entry.text.now ground.entry.macros.now ground.entry.mode sets.old (λ outcome. ComesTo ground.entry.source.now ground.entry.text.now ground.entry.macros.now ground.entry.mode sets.old (record self.old { calls = self.old.calls ++ call.entry ∷ [] }) progress.old outcome) sets.new self.new progress.new result }
+        ensures left { IfOk result (λ _. left (length ground.entry.text.now) self.new progress.new < left (length ground.entry.text.now) self.old progress.old + left_of_call call.entry) }
+        ensures comes { IsStep ground.entry.source.now ground.entry.text.now ground.entry.macros.now ground.entry.mode sets.old (λ outcome. ComesTo ground.entry.source.now ground.entry.text.now ground.entry.macros.now ground.entry.mode sets.old (record self.old { calls = self.old.calls ++ call.entry ∷ [] }) progress.old outcome) sets.new self.new progress.new result }
     {
         let mut call = call;
         let tokens = std::mem::replace(&mut self.out, Items::new(ground.alloc));
@@ -212,7 +216,8 @@ impl<'m> Expander<'m> {
         requires name { name.hidden < length sets.old }
         requires meant { spec.macro_of ground.source.now ground.macros.now (named sets.old name) ≡ Some meaning.now }
         requires alone { meaning.now.parameters ≡ None }
-        ensures { IsStep ground.entry.source.now ground.entry.text.now ground.entry.macros.now ground.entry.mode sets.old (λ outcome. ComesTo ground.entry.source.now ground.entry.text.now ground.entry.macros.now ground.entry.mode sets.old (record self.old { pending = self.old.pending ++ name ∷ [] }) progress.old outcome) sets.new self.new progress.new result }
+        ensures left { IfOk result (λ _. left (length ground.entry.text.now) self.new progress.new ≤ left (length ground.entry.text.now) self.old progress.old) }
+        ensures comes { IsStep ground.entry.source.now ground.entry.text.now ground.entry.macros.now ground.entry.mode sets.old (λ outcome. ComesTo ground.entry.source.now ground.entry.text.now ground.entry.macros.now ground.entry.mode sets.old (record self.old { pending = self.old.pending ++ name ∷ [] }) progress.old outcome) sets.new self.new progress.new result }
     {
         let Ground { alloc, source, .. } = ground;
         let hidden = sets.with_name(spelled(source, name.token), name.hidden)?;
@@ -237,8 +242,10 @@ impl<'m> Expander<'m> {
         requires name { name.hidden < length sets.old }
         requires meant { spec.macro_of ground.source.now ground.macros.now (named sets.old name) ≡ Some meaning.now }
         requires parameters { meaning.now.parameters ≡ Some parameters.now }
-        ensures { IsStep ground.entry.source.now ground.entry.text.now ground.entry.macros.now ground.entry.mode sets.old (IsCallOpened ground.entry.source.now ground.entry.text.now ground.entry.macros.now ground.entry.mode sets.old self.old name progress.old) sets.new self.new progress.new result }
+        ensures left { IfOk result (λ _. left (length ground.entry.text.now) self.new progress.new ≤ left (length ground.entry.text.now) self.old progress.old + 1) }
+        ensures comes { IsStep ground.entry.source.now ground.entry.text.now ground.entry.macros.now ground.entry.mode sets.old (IsCallOpened ground.entry.source.now ground.entry.text.now ground.entry.macros.now ground.entry.mode sets.old self.old name progress.old) sets.new self.new progress.new result }
     {
+        lines_go_on();
         let Ground { alloc, source, .. } = ground;
         let mode = self.mode_in(ground.mode);
         let read = read_call(
@@ -288,8 +295,10 @@ impl<'m> Expander<'m> {
         requires name { name.hidden < length sets.old }
         requires meant { spec.macro_of ground.source.now ground.macros.now (named sets.old name) ≡ Some meaning.now }
         requires parameters { meaning.now.parameters ≡ Some parameters.now }
-        ensures { IsStep ground.entry.source.now ground.entry.text.now ground.entry.macros.now ground.entry.mode sets.old (λ outcome. ComesTo ground.entry.source.now ground.entry.text.now ground.entry.macros.now ground.entry.mode sets.old (record self.old { pending = self.old.pending ++ name ∷ [] }) progress.old outcome) sets.new self.new progress.new result }
+        ensures left { IfOk result (λ _. left (length ground.entry.text.now) self.new progress.new ≤ left (length ground.entry.text.now) self.old progress.old) }
+        ensures comes { IsStep ground.entry.source.now ground.entry.text.now ground.entry.macros.now ground.entry.mode sets.old (λ outcome. ComesTo ground.entry.source.now ground.entry.text.now ground.entry.macros.now ground.entry.mode sets.old (record self.old { pending = self.old.pending ++ name ∷ [] }) progress.old outcome) sets.new self.new progress.new result }
     {
+        lines_go_on();
         let mode = self.mode_in(ground.mode);
         look_ahead(ground.alloc, ground.text, mode, &mut self.pending, progress)?;
         let Some(first) = self.pending.pop() else {
@@ -312,7 +321,8 @@ impl<'m> Expander<'m> {
     ) -> Result<(), ExpandFault>
         requires ready { IsReady ground.text.now sets.old self.old progress.old }
         requires lexeme { lexeme.hidden < length sets.old }
-        ensures { IsStep ground.entry.source.now ground.entry.text.now ground.entry.macros.now ground.entry.mode sets.old (λ outcome. ComesTo ground.entry.source.now ground.entry.text.now ground.entry.macros.now ground.entry.mode sets.old (record self.old { pending = self.old.pending ++ lexeme ∷ [] }) progress.old outcome) sets.new self.new progress.new result }
+        ensures left { IfOk result (λ _. left (length ground.entry.text.now) self.new progress.new ≤ left (length ground.entry.text.now) self.old progress.old) }
+        ensures comes { IsStep ground.entry.source.now ground.entry.text.now ground.entry.macros.now ground.entry.mode sets.old (λ outcome. ComesTo ground.entry.source.now ground.entry.text.now ground.entry.macros.now ground.entry.mode sets.old (record self.old { pending = self.old.pending ++ lexeme ∷ [] }) progress.old outcome) sets.new self.new progress.new result }
     {
         let Some(meaning) = macro_of(ground, sets, lexeme) else {
             return self.put_out(ground.mode, lexeme, progress);
@@ -335,6 +345,7 @@ impl<'m> Expander<'m> {
         progress: &mut Progress,
     ) -> Result<bool, ExpandFault>
         requires { IsReady ground.text.now sets.old self.old progress.old }
+        ensures left { IfOk result (λ more. more ≡ true → left (length ground.entry.text.now) self.new progress.new < left (length ground.entry.text.now) self.old progress.old) }
         ensures done { IfOk result (λ more. more ≡ false → (self.new.pending ≡ []) × (self.new.calls ≡ [])) }
         ensures comes { IsStep ground.entry.source.now ground.entry.text.now ground.entry.macros.now ground.entry.mode sets.old (λ outcome. ComesTo ground.entry.source.now ground.entry.text.now ground.entry.macros.now ground.entry.mode sets.old self.old progress.old outcome) sets.new self.new progress.new result }
     {
@@ -349,7 +360,7 @@ impl<'m> Expander<'m> {
         Ok(false)
     }
 
-    /// Expands what is at hand, to its end. So many turns that 64 bits do not count them are want of memory.
+    /// Expands what is at hand, to its end.
     fn run<'a>(
         &mut self,
         ground: Ground<'a, 'm>,
@@ -360,13 +371,12 @@ impl<'m> Expander<'m> {
         ensures done { IfOk result (λ _. (self.new.pending ≡ []) × (self.new.calls ≡ [])) }
         ensures comes { IsStep ground.entry.source.now ground.entry.text.now ground.entry.macros.now ground.entry.mode sets.old (λ outcome. ComesTo ground.entry.source.now ground.entry.text.now ground.entry.macros.now ground.entry.mode sets.old self.old progress.old outcome) sets.new self.new progress.new result }
     {
-        for _turn in 0..u64::MAX {
+        loop {
             let more = self.turn(ground, sets, progress)?;
             if !more {
                 return Ok(());
             }
         }
-        Err(ExpandFault::NoMemory)
     }
 }
 

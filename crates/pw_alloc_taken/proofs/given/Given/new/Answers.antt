@@ -1,4 +1,4 @@
-use Rattle.std.proofs.Common.{◌≡◌, ◌∙◌, ℕ, List, length, replicate, rules, refl, ap}
+use Rattle.std.proofs.Common.{◌≡◌, ◌∙◌, ℕ, List, length, replicate, rules, refl, ap, arith}
 use Rattle.std.specs.Prelude.{Option}
 use Rattle.std.proofs.lemmas.List.{length-replicate}
 use Rattle.pw_alloc_taken.proofs.Giving.{nothing, given_none}
@@ -22,3 +22,10 @@ returns-clause-given c =
     let regs : c.in_ok-registers.registers.items ≡ replicate c.temps.result nothing = search rules in
     let zeros : c.in_ok-occupied.occupied.items ≡ replicate c.args.count 0 = search rules in
     given_none c.args.f.now _ c.args.count (regs ∙ ap (λ (n : ℕ). replicate n nothing) c.temps.ensures) zeros refl c.in_ok-made.ensures.none
+
+-- so many words were held before
+pub new-requires : goal.new-requires
+new-requires c =
+    let occupied = c.in_ok-occupied.occupied in
+    let zeros : occupied.items ≡ replicate c.args.count 0 = search rules in
+    omega (arith, occupied.small, occupied.ok.0, occupied.ok.1, ap (λ (ms : List ℕ). length ms) zeros, length-replicate {A = ℕ} c.args.count 0)

@@ -1,9 +1,10 @@
-use Rattle.std.proofs.Common.{◌≡◌, ◌∙◌, Err, Some, [], ap, refl, reverse, rules, subst, sym}
+use Rattle.std.proofs.Common.{◌≡◌, ◌+◌, ◌<◌, ◌∙◌, arith, Err, Some, [], ap, refl, reverse, rules, subst, sym}
 use Rattle.pw_cpp.specs.Answers.{AnswersFile, AnswersStep, DoesQuoted, reads_of}
 use Rattle.pw_cpp.specs.Files.{IncludesHeader, ReadsFile}
 use Rattle.pw_cpp.proofs.Bounds.{name-within}
 use Rattle.pw_cpp.proofs.Headers.{header-deep, header-fault, header-read}
-use Rattle.pw_cpp.proofs.Including.{include-quoted, include-unquoted, quoted-found, quoted-missing, quoted-unlexed, quoted-wrong}
+use Rattle.pw_cpp.proofs.Including.{include-quoted, include-unquoted, quoted-found, quoted-missing, quoted-start, quoted-unlexed, quoted-wrong}
+use Rattle.pw_cpp.proofs.GoingOn.{quoted-on, step-on}
 use Rattle.pw_cpp.proofs.Lines.{line-include, line-left, line-marker, line-passed, line-pragma, line-text, line-whole}
 use Rattle.pw_cpp.proofs.OneFile.{reads-end, reads-fault, reads-long, reads-on, reads-open, reads-start}
 use Rattle.pw_cpp_directives.specs.Directives.{standing}
@@ -130,3 +131,38 @@ read_line-returns-in-Whole-clause-steps d c = λ f read. line-whole c.args.self.
 
 pub read_line-returns-in-Passed-clause-steps : goal.read_line-returns-in-Passed-clause-steps
 read_line-returns-in-Passed-clause-steps d c = λ f read. line-left c.args.self.now f c.args.text.now read digits_of c.args.depth c.args.at c.in-Directive.hash c.in-Directive.name c.in-Directive.ensures c.name_in.result.now c.name_in.ensures c.pass_directive.new.self c.pass_directive.result (sym c.in-Passed.is ∙ c.way_of.ensures) (c.pass_directive.ensures.steps f read)
+
+-- ---- the next line is further on
+
+pub quoted-returns-clause-within : goal.quoted-returns-clause-within
+quoted-returns-clause-within d c =
+    quoted-on c.read_header.new.self c.args.text.now (c.args.name.at + c.args.name.len) c.in_ok-line.line.next c.read_header.result c.in_ok-line.ensures.within c.in_ok-line.ensures.behind.0 c.read_header.ensures.within
+
+pub include-returns-clause-within : goal.include-returns-clause-within
+include-returns-clause-within d c =
+    let here = c.heads_stand_behind.ensures.directive c.args.text.now c.args.at c.args.hash c.args.name c.requires.head in
+    let space = c.heads_stand_behind.ensures.space c.args.text.now (c.args.name.at + c.args.name.len) c.pass_space-start.result c.pass_space-start.ensures.passed in
+    let start = quoted-start c.args.text.now c.pass_space-start.result c.in-Some.header (sym c.in-Some.is ∙ c.quoted_at.ensures) in
+    step-on c.quoted.new.self c.args.text.now (c.in-Some.header.at + c.in-Some.header.len) c.args.at c.quoted.result (omega (arith, here.0, here.2, space, start)) c.quoted.ensures.within
+
+pub read_line-returns-in-Marker-clause-within : goal.read_line-returns-in-Marker-clause-within
+read_line-returns-in-Marker-clause-within d c =
+    let here = c.heads_stand_behind.ensures.marker c.args.text.now c.args.at c.in-Marker.hash c.in-Marker.ensures in
+    let next = c.lines_go_on.ensures.rest c.args.text.now c.in-Marker.hash c.pass_rest.result c.pass_rest.ensures.passed in
+    let behind : c.in-Marker.hash < c.pass_rest.result = next.1 here.1 in
+    (c.requires.within, c.pass_rest.ensures.within, omega (arith, here.0, behind))
+
+pub read_line-returns-else-is_reading-clause-within : goal.read_line-returns-else-is_reading-clause-within
+read_line-returns-else-is_reading-clause-within d c =
+    (c.requires.within, c.pass_line.ensures.within, (c.lines_go_on.ensures.line c.args.text.now c.args.at c.pass_line.result c.pass_line.ensures.passed).1 c.requires.place)
+
+pub read_line-returns-in-Pragma-clause-within : goal.read_line-returns-in-Pragma-clause-within
+read_line-returns-in-Pragma-clause-within d c =
+    let here = c.heads_stand_behind.ensures.directive c.args.text.now c.args.at c.in-Directive.hash c.in-Directive.name c.in-Directive.ensures in
+    let next = c.lines_go_on.ensures.rest c.args.text.now (c.in-Directive.name.at + c.in-Directive.name.len) c.pass_rest-in-Pragma.result c.pass_rest-in-Pragma.ensures.passed in
+    (c.requires.within, c.pass_rest-in-Pragma.ensures.within, omega (arith, here.0, here.2, next.0))
+
+pub read_line-returns-in-Whole-clause-within : goal.read_line-returns-in-Whole-clause-within
+read_line-returns-in-Whole-clause-within d c =
+    let here = c.heads_stand_behind.ensures.directive c.args.text.now c.args.at c.in-Directive.hash c.in-Directive.name c.in-Directive.ensures in
+    step-on c.obey.new.self c.args.text.now c.in-Directive.hash c.args.at c.obey.result here.0 c.obey.ensures.within

@@ -23,3 +23,6 @@ pub returns-clause-steps : goal.returns-clause-steps
 returns-clause-steps c = λ f read.
     obeys-done c.args.self.now c.obey_tokens.new.self c.obey_tokens.ensures.still f c.args.text.now read digits_of c.args.hash c.args.name c.in_ok-line.line c.in_ok-line.ensures.lexes
     c.in_ok-obey_tokens.field-0 (search (rules, c.in_ok-obey_tokens.ensures.steps, c.name_in.ensures, c.as_slice.ensures))
+
+pub returns-clause-within : goal.returns-clause-within
+returns-clause-within c = (c.in_ok-obey_tokens.ensures.within, c.in_ok-line.ensures.within, c.in_ok-line.ensures.behind.1 c.requires.place)
