@@ -1,10 +1,9 @@
 -- What a build answers and leaves of the store.
-use Rattle.std.specs.Prelude.{◌≡◌, ℕ, ◌≤◌, List, Option, Some, Result, Ok, Err}
+use Rattle.std.specs.Prelude.{◌≡◌, ℕ, List, Option, Some, Result, Ok, Err}
 use Rattle.std.specs.List.{AllByRecursion}
 use Rattle.sha2.specs.Sha256.{sha256}
 use Rattle.pw_io.specs.Files.{Files, Told}
 use Rattle.pw_object.specs.declared.object.Object.{Object}
-use Rattle.pw_value.specs.Limits.{stack_least, stack_limit}
 use Rattle.pw_top_answer.specs.declared.answer.Answer.{Answer}
 use Rattle.pw_top_answer.specs.declared.answer.Answer.TheVariants as answer
 use Rattle.pw_top_answer.specs.Effects.{NamedFile, PutPart, PutsFiles, after_puts}
@@ -24,14 +23,8 @@ use Rattle.pw_build_files.specs.Programs.{IsCounted}
 use Rattle.pw_build_files.specs.FromBuild.Builds.{first_phases}
 use Rattle.pw_build_files.specs.Building.{BuildOutcome, Outcome, kept_objects, puts_of}
 use Rattle.pw_build_files.specs.Seen.{SeenOutcome}
-use Rattle.pw_db.specs.Limits.{colour_limit}
+pub use Rattle.pw_build_objects.specs.Options.{AreOpts}
 use Rattle.pw_build_files.specs.Genuine.{IsBuiltName}
-
--- at most 8 registers for webs, and a stack of a size that there may be
-pub record AreOpts (opts : Opts) : Type 0 where
-  pub colours : opts.colours ≤ colour_limit
-  pub least : stack_least ≤ opts.stack
-  pub most : opts.stack ≤ stack_limit
 
 -- the report of an outcome
 pub record Reports (outcome : Outcome) (report : Report) : Type 0 where

@@ -2,5 +2,6 @@ pub mod Programs
 pub mod Kept
 pub mod Choosing
 pub mod Preparing
+pub mod Options
 pub mod Showing
 pub mod Counting

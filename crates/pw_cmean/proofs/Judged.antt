@@ -13,7 +13,7 @@ use Rattle.pw_types.specs.declared.kind.IntKind.TheVariants as K
 use Rattle.pw_types.specs.declared.tree.UnaryOperator.TheVariants.{Plus, Minus, Complement, Not}
 use Rattle.pw_types.specs.declared.tree.BinaryOperator.{BinaryOperator}
 use Rattle.pw_types.specs.declared.tree.BinaryOperator.TheVariants as O
-use Rattle.pw_types.specs.TypedTrees.{Expression, Node, Number, Str, Local, Global, Function, Unary, Binary, Logic, Cond, Comma, Assign, Compound, Step, Cast, Decay, Member, Deref, Address, Call, CallValue, Expressions, NoExpression, OneExpression, type_at, Initialiser, Value as ByValue, Bytes as ByBytes, Statement, Empty, Evaluate, Block, If, While, Do, For, Switch, Label, Goto, Break, Continue, Return, Arms, NoArm, Arm, Otherwise, NoElse, Else, Statements, NoStatement, OneStatement, LocalValue, FunctionValue}
+use Rattle.pw_types.specs.TypedTrees.{Expression, Node, Number, Str, Local, Global, Function, Unary, Binary, Logic, Cond, Comma, Assign, Compound, Step, Cast, Decay, Member, Deref, Address, Call, CallValue, Expressions, NoExpression, OneExpression, type_at, Initialiser, Value as ByValue, Bytes as ByBytes, Statement, Evaluate, Block, If, While, Do, For, Switch, Label, Return, Arms, NoArm, Arm, Otherwise, NoElse, Else, Statements, NoStatement, OneStatement, LocalValue, FunctionValue}
 use Rattle.pw_types.specs.WellTyped as W
 use Rattle.pw_types.specs.WellTyped.{type_in, IsTyped as IsTypedTree, HasForm, AreArguments}
 use Rattle.pw_types.specs.TypedModules as M
@@ -268,7 +268,6 @@ module _ (p : Program) (w : IsWellTyped p) (m : ProgramModule) (inside : Contain
     unfolding IsStatement AreStatements AreArms IsElse
 
     pub statement : (s : Statement) (breaks continues : Bool) (from : ℕ) → IsStatement m.tree f breaks continues from s → IsTypedStatement p m.name (letter_in m f) s
-    statement (Empty t) breaks continues from h = tt
     statement (Evaluate t a) breaks continues from h = typed p w m inside f.locals a h
     statement (Block t first count is list) breaks continues from h =
         (initialisers p w m inside f.locals first count is h.2, statements list breaks continues (first + count) h.3)
@@ -279,12 +278,9 @@ module _ (p : Program) (w : IsWellTyped p) (m : ProgramModule) (inside : Contain
         (absent p w m inside f.locals first h.0, condition-absent p w m inside f.locals c h.1, absent p w m inside f.locals third h.2, statement body true true from h.3)
     statement (Switch t a cases default body) breaks continues from h = (typed p w m inside f.locals a h.0, statement body true continues from h.2)
     statement (Label t labels body) breaks continues from h = statement body breaks continues from h.1
-    statement (Goto t l) breaks continues from h = tt
-    statement (Break t) breaks continues from h = tt
-    statement (Continue t) breaks continues from h = tt
-    statement (Return t None) breaks continues from h = tt
     statement (Return t (Some a)) breaks continues from h =
         (typed p w m inside f.locals a h.0, ap letter_of h.1.4 ∙ letter-of m f h.1.0 h.1.1 h.1.2)
+    statement _ breaks continues from h = tt
 
     pub statements : (ss : Statements) (breaks continues : Bool) (from : ℕ) → AreStatements m.tree f breaks continues from ss → AreTypedStatements p m.name (letter_in m f) ss
     statements NoStatement breaks continues from h = tt

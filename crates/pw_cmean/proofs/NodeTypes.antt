@@ -10,7 +10,7 @@ use Rattle.pw_types.specs.declared.kind.IntKind.TheVariants as K
 use Rattle.pw_types.specs.declared.tree.UnaryOperator.TheVariants.{Not}
 use Rattle.pw_types.specs.declared.tree.BinaryOperator.{BinaryOperator}
 use Rattle.pw_types.specs.declared.tree.BinaryOperator.TheVariants.{Less, Greater, LessEqual, GreaterEqual, Equal, NotEqual}
-use Rattle.pw_types.specs.TypedTrees.{Expression, Node, Number, Str, Local, Global, Function, Unary, Binary, Logic, Cond, Comma, Assign, Compound, Step, Cast, Decay, Member, Deref, Address, Call, CallValue, Expressions, NoExpression, OneExpression, type_at, Initialiser, Value as ByValue, Bytes as ByBytes, Statement, Empty, Evaluate, Block, If, While, Do, For, Switch, Label, Goto, Break, Continue, Return, Arms, NoArm, Arm, Otherwise, NoElse, Else, Statements, NoStatement, OneStatement}
+use Rattle.pw_types.specs.TypedTrees.{Expression, Node, Number, Str, Local, Global, Function, Unary, Binary, Logic, Cond, Comma, Assign, Compound, Step, Cast, Decay, Member, Deref, Address, Call, CallValue, Expressions, NoExpression, OneExpression, type_at, Initialiser, Value as ByValue, Bytes as ByBytes, Statement, Evaluate, Block, If, While, Do, For, Switch, Label, Return, Arms, NoArm, Arm, Otherwise, NoElse, Else, Statements, NoStatement, OneStatement}
 use Rattle.pw_cmean.specs.Worlds.{Program, Callable, Body, Defined, Library, LibraryFunction, GetChar, PutChar, ExitRun, full_name, function_named, functions_of}
 use Rattle.pw_types.specs.WellTyped.{IsPromoted, IsScalar}
 use Rattle.pw_cmean.specs.Typed.{IsValueOf, result_letter}
@@ -106,7 +106,6 @@ AreTypedInitialisers p home (ByBytes k hidden parts ∷ rest) = AreTypedInitiali
 -- a statement of a function whose result has a letter
 abbrev mutual
   pub IsTypedStatement : Program → List ℕ → ℕ → Statement → Type 0
-  IsTypedStatement p home letter (Empty t) = Unit {0}
   IsTypedStatement p home letter (Evaluate t a) = IsTyped p home a
   IsTypedStatement p home letter (Block t first count initialisers items) =
       AreTypedInitialisers p home initialisers × AreTypedStatements p home letter items
@@ -117,11 +116,8 @@ abbrev mutual
       IsTypedIfAny p home first × IsTypedIfAny p home c × IsTypedIfAny p home third × IsTypedStatement p home letter body
   IsTypedStatement p home letter (Switch t a cases default body) = IsTyped p home a × IsTypedStatement p home letter body
   IsTypedStatement p home letter (Label t labels body) = IsTypedStatement p home letter body
-  IsTypedStatement p home letter (Goto t l) = Unit {0}
-  IsTypedStatement p home letter (Break t) = Unit {0}
-  IsTypedStatement p home letter (Continue t) = Unit {0}
-  IsTypedStatement p home letter (Return t None) = Unit {0}
   IsTypedStatement p home letter (Return t (Some a)) = IsTyped p home a × (letter_of (type_of (type_at a)) ≡ letter)
+  IsTypedStatement p home letter _ = Unit {0}
 
   pub AreTypedStatements : Program → List ℕ → ℕ → Statements → Type 0
   AreTypedStatements p home letter NoStatement = Unit {0}

@@ -2,7 +2,7 @@
 use Rattle.std.proofs.Common.{arith, ℕ, zero, suc, ◌≤◌, Bool, true, List, [], ◌∷◌, Option, Some, None}
 use Rattle.pw_value.specs.declared.value.Value.{Value}
 use Rattle.pw_value.specs.declared.value.Value.TheVariants as V
-use Rattle.pw_types.specs.TypedTrees.{Expression, Node, Number, Str, Local, Global, Function, Unary, Binary, Logic, Cond, Comma, Assign, Compound, Step, Cast, Decay, Member, Deref, Address, Call, CallValue, Expressions, NoExpression, OneExpression, Initialiser, Value as ByValue, Bytes as ByBytes, Statement, Empty, Evaluate, Block, If, While, Do, For, Switch, Label, Goto, Break, Continue, Return, Arms, NoArm, Arm, Otherwise, NoElse, Else, Statements, NoStatement, OneStatement}
+use Rattle.pw_types.specs.TypedTrees.{Expression, Node, Number, Str, Local, Global, Function, Unary, Binary, Logic, Cond, Comma, Assign, Compound, Step, Cast, Decay, Member, Deref, Address, Call, CallValue, Expressions, NoExpression, OneExpression, Initialiser, Value as ByValue, Bytes as ByBytes, Statement, Evaluate, Block, If, While, Do, For, Switch, Label, Return, Arms, NoArm, Arm, Otherwise, NoElse, Else, Statements, NoStatement, OneStatement}
 use Rattle.pw_cmean.specs.Worlds.{World, Body, Defined, Library}
 use Rattle.pw_cmean.specs.Acts.{Act, Site, Bound, give, ◌>>=◌, ◌>>◌}
 use Rattle.pw_cmean.specs.Evaluation.{Env, Calls, used, answer_of, place_of, values_of}
@@ -219,7 +219,6 @@ module _ (R : (A : Type 0) → Act A → Act A → Type 0) (laws : Laws R) where
     unfolding meaning items arms behind_arms
 
     pub meaning-r : (s : Statement) (at : Entry) (cs cs' : Calls) (e : Env) → AreRelated R laws cs cs' → R Flow (meaning s at cs e) (meaning s at cs' e)
-    meaning-r (Empty t) at cs cs' e h = laws.gives Flow _
     meaning-r (Evaluate t a) at cs cs' e h = bind-r R laws (answer-r a cs cs' e h) λ o. laws.gives Flow _
     meaning-r (Block t first count initialisers list) at cs cs' e h =
         with_locals-r count first e λ inner. bind-r R laws (initialise_all-r initialisers at cs cs' inner h) λ u.
@@ -258,11 +257,8 @@ module _ (R : (A : Type 0) → Act A → Act A → Type 0) (laws : Laws R) where
         bind-r R laws (meaning-r body (At_label l) cs cs' e h) λ f. after_switch-r f
     meaning-r (Label t labels body) at cs cs' e h =
         taking_up-r labels _ at cs cs' h λ at' ds ds' k. meaning-r body _ ds ds' e k
-    meaning-r (Goto t l) at cs cs' e h = laws.gives Flow _
-    meaning-r (Break t) at cs cs' e h = laws.gives Flow _
-    meaning-r (Continue t) at cs cs' e h = laws.gives Flow _
-    meaning-r (Return t None) at cs cs' e h = laws.gives Flow _
     meaning-r (Return t (Some a)) at cs cs' e h = bind-r R laws (value-r a cs cs' e h) λ v. laws.gives Flow _
+    meaning-r _ at cs cs' e h = laws.gives Flow _
 
     pub items-r : (ss : Statements) (at : Entry) (cs cs' : Calls) (e : Env) → AreRelated R laws cs cs' → R Flow (items ss at cs e) (items ss at cs' e)
     items-r NoStatement at cs cs' e h = laws.gives Flow _

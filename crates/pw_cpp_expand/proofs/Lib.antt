@@ -9,3 +9,4 @@ pub mod Whole
 pub mod Results
 pub mod ReadCalls
 pub mod Places
+pub mod GoingOn

@@ -27,6 +27,7 @@ use Rattle.pw_cpp_expand.specs.declared.progress.ExpandFault.TheVariants.{Length
 use Rattle.pw_cpp_expand.specs.declared.progress.Mode.{Mode}
 use Rattle.pw_cpp_expand.specs.declared.progress.Mode.TheVariants.{Alone, InText}
 use Rattle.pw_cpp_expand.specs.declared.progress.Progress.{Progress}
+use Rattle.pw_cpp_expand.proofs.GoingOn.{HasFewTokens, IsFewAhead, IsFewCalled, called-from, collects-few, looks-few, weight}
 use Rattle.pw_cpp_expand.proofs.ReadingOn.{hash-within, rest-on}
 
 -- ---- bounds
@@ -515,6 +516,69 @@ module _ (source text : List ℕ) (macros : Macros) where
   pub tokens-in-order : (pending out : List Lexeme) (p q : Progress) (low first : ℕ) → Expands source text macros InText pending p (Done out q) → StandBetween low pending p.next → AreReadFrom first p
       → StandBetween low out q.next × AreReadFrom first q
   tokens-in-order pending out p q low first e h r = let k = expands_from low first pending p (Done out q) h e in (k.0, k.1 r)
+
+-- ---- a text goes on
+
+abbrev IsOutOn : Progress → Outcome → Type 0
+IsOutOn p (Done out q) = p.next ≤ q.next
+IsOutOn p (Stopped fault) = Unit {0}
+
+abbrev IsTurnOn : Progress → Turn → Type 0
+IsTurnOn p (Stands ahead q) = p.next ≤ q.next
+IsTurnOn p (Becomes result behind q) = p.next ≤ q.next
+IsTurnOn p (Faults fault) = Unit {0}
+
+next_on : (p q : Progress) (o : Outcome) → p.next ≤ q.next → IsOutOn q o → IsOutOn p o
+next_on p q (Done out r) l h = omega (arith, l, h)
+next_on p q (Stopped fault) l h = tt
+
+next_first : (p : Progress) (t : Lexeme) (o : Outcome) → IsOutOn p o → IsOutOn p (with_first t o)
+next_first p t (Done out q) h = h
+next_first p t (Stopped fault) h = tt
+
+replaced_on : (source : List ℕ) (hidden : List (List ℕ)) (place : ℕ) (replacement : List Token) (behind : List Lexeme) (p q : Progress) (a : Arguments) → p.next ≤ q.next → IsSameArguments q a
+    → IsTurnOn p (replaced_call source hidden place replacement behind a)
+replaced_on source hidden place replacement behind p q (Expanded arguments r) l s = omega (arith, l, s.0)
+replaced_on source hidden place replacement behind p q (Refused fault) l s = tt
+
+module _ (few : HasFewTokens) (source text : List ℕ) (macros : Macros) where
+  calls_on : (count : ℕ) (m : Macro) (parameters : List Token) (t : Lexeme) (found : Called) (p : Progress) (turn : Turn) → IsFewCalled count p found → Calls source text macros m parameters t found turn
+      → IsTurnOn p turn
+  calls_on count m parameters t found p turn h (by.open_call _ _ _) = tt
+  calls_on count m parameters t found p turn h (by.unread_call _ _ _ fault) = tt
+  calls_on count m parameters t found p turn h (by.miscounted _ _ _ close arguments behind q n) = tt
+  calls_on count m parameters t found p turn h (by.closed _ _ _ close arguments behind q a _ n k e) =
+      let P : Turn → Type 0 = λ z. IsTurnOn p z in
+      subst P (sym e) (replaced_on source _ t.place m.replacement behind p q a h.0 (arguments_same source text macros m.replacement parameters (arguments_of parameters arguments) q a k))
+
+  meets_on : (count : ℕ) (t : Lexeme) (m : Macro) (parameters : List Token) (ahead : Ahead) (p : Progress) (turn : Turn) → IsFewAhead count p ahead
+      → Meets source text macros InText t m parameters ahead turn → IsTurnOn p turn
+  meets_on count t m parameters ahead p turn h (by.unread _ _ _ _ fault) = tt
+  meets_on count t m parameters ahead p turn h (by.uncalled _ _ _ _ tokens q n) = h.0
+  meets_on count t m parameters ahead p turn h (by.called _ _ mark _ _ behind q found _ n c k) =
+      calls_on (count + 1) m parameters t found p turn
+      (called-from (count + 1) (weight ([] ∷ []) + length behind) p q found h.0 (omega (arith, h.1)) (collects-few few text source InText 0 ([] ∷ []) behind q found (omega arith) c)) k
+
+  turns_on : (t : Lexeme) (rest : List Lexeme) (p : Progress) (m : Option Macro) (turn : Turn) → Turns source text macros InText t rest p m turn → IsTurnOn p turn
+  turns_on t rest p m turn (by.no_macro _ _ _ _) = omega arith
+  turns_on t rest p m turn (by.object _ _ _ _ found result n e) = omega arith
+  turns_on t rest p m turn (by.looks _ _ _ _ found parameters ahead _ n l k) = meets_on (length rest) t found parameters ahead p turn (looks-few few text InText rest p ahead l) k
+
+  mutual
+    expands_on : (pending : List Lexeme) (p : Progress) (o : Outcome) → Expands source text macros InText pending p o → IsOutOn p o
+    expands_on pending p o (by.ends _ _) = omega arith
+    expands_on pending p o (by.turns _ t rest _ turn _ k f) = follows_on t turn p o (turns_on t rest p _ turn k) f
+
+    follows_on : (t : Lexeme) (turn : Turn) (p : Progress) (o : Outcome) → IsTurnOn p turn → Follows source text macros InText t turn o → IsOutOn p o
+    follows_on t turn p o h (by.stands _ _ ahead q _ more n k e) =
+        let P : Outcome → Type 0 = λ z. IsOutOn p z in subst P (sym e) (next_first p t more (next_on p (putting InText t q) more h (expands_on ahead (putting InText t q) more k)))
+    follows_on t turn p o h (by.too_long _ _ ahead q n) = tt
+    follows_on t turn p o h (by.becomes _ _ result behind q _ n k) = next_on p (producing q (length result)) o h (expands_on (result ++ behind) (producing q (length result)) o k)
+    follows_on t turn p o h (by.too_many _ _ result behind q n) = tt
+    follows_on t turn p o h (by.faults _ _ fault) = tt
+
+  pub text-goes-on : (pending out : List Lexeme) (p q : Progress) → Expands source text macros InText pending p (Done out q) → p.next ≤ q.next
+  text-goes-on pending out p q e = expands_on pending p (Done out q) e
 
 -- ---- faults within bounds
 

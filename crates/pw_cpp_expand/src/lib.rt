@@ -10,5 +10,7 @@ mod result;
 
 pub use ahead::{fresh, read_line};
 pub use expansion::{expand_alone, expand_text};
-pub use laws::{faults_within, line_in_order, one_outcome, one_reading, tokens_in_order};
+pub use laws::{
+    faults_within, line_in_order, one_outcome, one_reading, text_goes_on, tokens_in_order,
+};
 pub use progress::{ExpandFault, Lexeme, Mode, OUTPUT_LIMIT, PRODUCED_LIMIT, Progress};

@@ -4,3 +4,4 @@ pub mod Cutting
 pub mod OneEnd
 pub mod OneLine
 pub mod Walks
+pub mod GoingOn

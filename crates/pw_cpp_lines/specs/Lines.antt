@@ -1,5 +1,5 @@
 -- Logical lines: a text is read line by line, each as tokens with blanks and comments between them (ISO/IEC 9899:1990, 5.1.1.2 and 6.8).
-use Rattle.std.specs.Prelude.{◌≡◌, ℕ, ◌+◌, Bool, true, false, ◌||◌, ◌==◌, ◌⊎◌, if◌then◌else◌, nat_le, List, [], ◌∷◌, ◌++◌, drop, length, slice_index, Option, Some, None, Result, Ok, Err, ⊤}
+use Rattle.std.specs.Prelude.{◌≡◌, ℕ, ◌+◌, ◌<◌, ◌≤◌, Bool, true, false, ◌||◌, ◌==◌, ◌⊎◌, if◌then◌else◌, nat_le, List, [], ◌∷◌, ◌++◌, drop, length, slice_index, Option, Some, None, Result, Ok, Err, ⊤}
 use Rattle.pw_token.specs.Tokenization.{BeginsWith, token_in}
 use Rattle.pw_token.specs.declared.piece.PieceKind.{PieceKind}
 use Rattle.pw_token.specs.declared.piece.PieceKind.TheVariants as piece
@@ -20,6 +20,10 @@ is_line_end text at = nat_le (length text) at || slice_index text at == 10
 -- where the next line begins, of a line that ends at a place
 abbrev pub behind_line : List ℕ → ℕ → ℕ
 behind_line text end = if nat_le (length text) end then end else end + 1
+
+-- The next line begins behind the place where this one does, unless the text ends there.
+abbrev pub IsBehind : List ℕ → ℕ → ℕ → Type 0
+IsBehind text at next = (at ≤ next) × (at < length text → at < next)
 
 -- ---- cuttings
 

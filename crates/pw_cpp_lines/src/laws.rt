@@ -1,10 +1,12 @@
 //! Laws of lines.
 
-ghost use Rattle.std.specs.Prelude.{◌≡◌, ℕ, List, Result};
+ghost use Rattle.std.specs.Prelude.{◌≡◌, ◌≤◌, ◌<◌, ◌+◌, ℕ, List, Ok, Result, length};
 ghost use Rattle.pw_cpp_lines.specs.Heads.{IsHead};
-ghost use Rattle.pw_cpp_lines.specs.Lines.{Lexes, PassesSpace};
+ghost use Rattle.pw_cpp_lines.specs.Lines.{IsBehind, Lexes, PassesSpace};
 ghost use Rattle.pw_cpp_lines.specs.Passing.{PassesLine, PassesRest};
+ghost use Rattle.pw_cpp_lines.specs.declared.head.Head.TheVariants as head;
 ghost use Rattle.pw_cpp_lines.specs.declared.head.Head.{Head};
+ghost use Rattle.pw_cpp_lines.specs.declared.head.Span.{Span};
 ghost use Rattle.pw_cpp_lines.specs.declared.line.Line.{Line};
 ghost use Rattle.pw_cpp_lines.specs.declared.line.LineFault.{LineFault};
 
@@ -32,3 +34,21 @@ pub fn one_end()
 {
     piece_at_is_exact();
 }
+
+/// Where the next line begins is behind where this one does, however it is read or passed over; and a line has no more tokens than
+/// bytes.
+pub fn lines_go_on()
+    ensures lexed { (text : List ℕ) (at : ℕ) (line : Line) → Lexes text at (Ok line) → IsBehind text at line.next }
+    ensures tokens { (text : List ℕ) (at : ℕ) (line : Line) → Lexes text at (Ok line) → at + length line.tokens ≤ line.next }
+    ensures rest { (text : List ℕ) (at next : ℕ) → PassesRest text at next → IsBehind text at next }
+    ensures line { (text : List ℕ) (at next : ℕ) → PassesLine text at next → IsBehind text at next }
+{
+    piece_at_is_exact();
+}
+
+/// The `#` of a line stands in the text, no earlier than its line begins, and the name of a directive behind it.
+pub fn heads_stand_behind()
+    ensures marker { (text : List ℕ) (at hash : ℕ) → IsHead text at (head.Marker hash) → (at ≤ hash) × (hash < length text) }
+    ensures directive { (text : List ℕ) (at hash : ℕ) (name : Span) → IsHead text at (head.Directive hash name) → (at ≤ hash) × (hash < length text) × (hash < name.at) }
+    ensures space { (text : List ℕ) (at end : ℕ) → PassesSpace text at end → at ≤ end }
+{}

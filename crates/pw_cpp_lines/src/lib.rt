@@ -9,6 +9,6 @@ mod passing;
 mod quotes;
 
 pub use head::{Head, Span, head_of, header_name};
-pub use laws::{one_end, one_head, one_line};
+pub use laws::{heads_stand_behind, lines_go_on, one_end, one_head, one_line};
 pub use line::{Line, LineFault, lex_line};
 pub use passing::{pass_line, pass_rest, pass_space};

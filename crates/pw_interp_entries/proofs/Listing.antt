@@ -3,7 +3,7 @@ use Rattle.std.proofs.Common.{ℕ, zero, suc, ◌+◌, ◌≡◌, refl, sym, ap,
 use Rattle.std.specs.Prelude.{slice_get}
 use Rattle.std.specs.Borrow.{Bor}
 use Rattle.pw_types.specs.Labels.{labels_in}
-use Rattle.pw_types.specs.TypedTrees.{Expression, Statement, Empty, Evaluate, Block, If, While, Do, For, Switch, Label, Goto, Break, Continue, Return, Statements, NoStatement, OneStatement, Arms, NoArm, Arm, Otherwise, Initialiser, token_of}
+use Rattle.pw_types.specs.TypedTrees.{Expression, Statement, Block, If, Label, Statements, NoStatement, OneStatement, Arms, NoArm, Arm, Otherwise, Initialiser, token_of}
 use Rattle.pw_typed.specs.Views.{view_arms, view_expr, view_stmt, view_stmts}
 use Rattle.pw_typed.specs.declared.tree.Arm as code
 use Rattle.pw_typed.specs.declared.tree.TStmt.{TStmt}
@@ -172,31 +172,13 @@ once_label t labels body is at e n s =
 
 -- what takes up no gotos
 pub none_taken : (a : Statement) → takes_up a ≡ false → taken_in a ≡ []
-none_taken (Empty t) is = refl
-none_taken (Evaluate t x) is = refl
 none_taken (Block t first count initialisers list) is = cc is
 none_taken (If t list o) is = cc is
-none_taken (While t c body) is = refl
-none_taken (Do t body c) is = refl
-none_taken (For t first c third body) is = refl
-none_taken (Switch t x cases default body) is = refl
 none_taken (Label t labels body) is = cc is
-none_taken (Goto t k) is = refl
-none_taken (Break t) is = refl
-none_taken (Continue t) is = refl
-none_taken (Return t x) is = refl
+none_taken _ is = refl
 
 pub passes_once : (a : Statement) → takes_up a ≡ false → (e : Env) (cs : Calls) (from : Entry) → once_of a e from cs ≡ give Normal
-passes_once (Empty t) is e cs from = refl
-passes_once (Evaluate t x) is e cs from = refl
 passes_once (Block t first count initialisers list) is e cs from = cc is
 passes_once (If t list o) is e cs from = cc is
-passes_once (While t c body) is e cs from = refl
-passes_once (Do t body c) is e cs from = refl
-passes_once (For t first c third body) is e cs from = refl
-passes_once (Switch t x cases default body) is e cs from = refl
 passes_once (Label t labels body) is e cs from = cc is
-passes_once (Goto t k) is e cs from = refl
-passes_once (Break t) is e cs from = refl
-passes_once (Continue t) is e cs from = refl
-passes_once (Return t x) is e cs from = refl
+passes_once _ is e cs from = refl

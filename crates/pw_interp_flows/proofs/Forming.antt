@@ -9,13 +9,13 @@ use Rattle.pw_typed.specs.declared.tree.Initialiser as code
 use Rattle.pw_cmean.specs.Acts.{State, Act, give, go_on, ◌>>=◌, ◌>>◌}
 use Rattle.pw_cmean.specs.Evaluation.{Env, Calls, site, used}
 use Rattle.pw_cmean.specs.Execution as execution
-use Rattle.pw_cmean.specs.Execution.{Entry, Front, At_label, Flow, Normal, taking_up, meet_loop, value_of, with_locals, meaning, items, initialise, initialise_all, after_switch, caught}
+use Rattle.pw_cmean.specs.Execution.{Entry, Front, At_label, Flow, Normal, taking_up, value_of, with_locals, meaning, items, initialise, initialise_all, after_switch, caught}
 use Rattle.pw_cmean.specs.SourceRun.{calls}
 use Rattle.pw_interp_todo.specs.declared.statements.Part.TheVariants as P
 use Rattle.pw_interp_todo.specs.Asking.{answered}
 use Rattle.pw_interp_todo.specs.Going.{initialised, switched}
-use Rattle.pw_interp_todo.specs.Members.{initialisers_in, members_in, first_in, count_in, taken_in}
-use Rattle.pw_interp_todo.specs.Parts.{met_arms, inside, once_of, taking_act, part_act}
+use Rattle.pw_interp_todo.specs.Members.{members_in}
+use Rattle.pw_interp_todo.specs.Parts.{met_arms, inside, taking_act, part_act}
 use Rattle.pw_interp_todo.proofs.ActLaws.{grouped}
 use Rattle.pw_interp_todo.proofs.Firsts.{used_first}
 use Rattle.pw_interp_functions.specs.Copies.{by_bytes, copying}
@@ -132,19 +132,8 @@ module _ (e : Env) (n : ℕ) (s : State) where
 
   pub list_some : (a x : Statement) (rest : Statements) (at : Entry) → members_in a ≡ OneStatement x rest → inside [] (members_in a) at (calls e.world n) e s ≡ taking_act a e at (calls e.world n) s
   unfolding inside initialise_all ◌>>=◌ go_on give
-  list_some (Empty t) x rest at is = cc is
-  list_some (Evaluate t a) x rest at is = cc is
   list_some (Block t first count initialisers list) x rest at is = refl
-  list_some (If t list o) x rest at is = cc is
-  list_some (While t c body) x rest at is = cc is
-  list_some (Do t body c) x rest at is = cc is
-  list_some (For t first c third body) x rest at is = cc is
-  list_some (Switch t a cases default body) x rest at is = cc is
-  list_some (Label t labels body) x rest at is = cc is
-  list_some (Goto t k) x rest at is = cc is
-  list_some (Break t) x rest at is = cc is
-  list_some (Continue t) x rest at is = cc is
-  list_some (Return t a) x rest at is = cc is
+  list_some _ x rest at is = cc is
 
   pub no_list : (at : Entry) → inside [] NoStatement at (calls e.world n) e s ≡ give Normal s
   unfolding inside initialise_all taking_up caught meaning ◌>>=◌ go_on give

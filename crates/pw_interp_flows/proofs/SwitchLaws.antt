@@ -2,7 +2,7 @@
 use Rattle.std.proofs.Common.{ℕ, ◌≡◌, refl, ap, Option, Some, None, List, [], ◌∷◌}
 use Rattle.pw_value.specs.declared.value.Value.{Value}
 use Rattle.pw_value.specs.declared.value.Value.TheVariants as V
-use Rattle.pw_types.specs.TypedTrees.{CaseValue, Statement, Empty, Evaluate, Block, If, While, Do, For, Switch, Label, Goto, Break, Continue, Return}
+use Rattle.pw_types.specs.TypedTrees.{CaseValue, Statement, Switch}
 use Rattle.pw_cmean.specs.Acts.{give}
 use Rattle.pw_cmean.specs.Evaluation.{Env, Calls}
 use Rattle.pw_cmean.specs.Execution.{At_label, Normal, label_for, meaning, switch_to}
@@ -40,31 +40,9 @@ module _ (e : Env) (cs : Calls) (v : Value) where
       let wanted : List CaseValue × Option ℕ × Statement = (cases, default, body) in
       let same : here ≡ wanted = cc is in
       ap (λ (p : List CaseValue × Option ℕ × Statement). switch_to (label_for p.0 p.1 v) (λ l. meaning p.2 (At_label l) cs e)) same
-  switched_some (Empty t) cases default body is = cc is
-  switched_some (Evaluate t x) cases default body is = cc is
-  switched_some (Block t first count initialisers list) cases default body is = cc is
-  switched_some (If t list o) cases default body is = cc is
-  switched_some (While t c b) cases default body is = cc is
-  switched_some (Do t b c) cases default body is = cc is
-  switched_some (For t first c third b) cases default body is = cc is
-  switched_some (Label t labels b) cases default body is = cc is
-  switched_some (Goto t k) cases default body is = cc is
-  switched_some (Break t) cases default body is = cc is
-  switched_some (Continue t) cases default body is = cc is
-  switched_some (Return t x) cases default body is = cc is
+  switched_some _ cases default body is = cc is
 
   pub switched_none : (a : Statement) → switch_in a ≡ None → switched a e cs v ≡ give Normal
   unfolding switched
   switched_none (Switch t x cs' d b) is = cc is
-  switched_none (Empty t) is = refl
-  switched_none (Evaluate t x) is = refl
-  switched_none (Block t first count initialisers list) is = refl
-  switched_none (If t list o) is = refl
-  switched_none (While t c b) is = refl
-  switched_none (Do t b c) is = refl
-  switched_none (For t first c third b) is = refl
-  switched_none (Label t labels b) is = refl
-  switched_none (Goto t k) is = refl
-  switched_none (Break t) is = refl
-  switched_none (Continue t) is = refl
-  switched_none (Return t x) is = refl
+  switched_none _ is = refl

@@ -18,7 +18,7 @@ ghost use Rattle.pw_law_lower.specs.Within.{IsWithin};
 ghost use Rattle.pw_run_languages.specs.LawfulPrograms.{IsProgram, NamesRightly, ops_of};
 ghost use Rattle.pw_run_languages.specs.LinkingLaws.{AreNamesApart};
 ghost use Rattle.pw_law_source.specs.Accepting.{AreFormed, CheckedIsAccepted, LeadInside};
-ghost use Rattle.pw_law_source.specs.Lowering.{AreChecked, DeclareAlike, HaveParts, LoweringKeepsRuns, flow_program};
+ghost use Rattle.pw_law_source.specs.Lowering.{AreChecked, DeclareAlike, HaveParts, LoweringKeepsRuns, SourceIsNeverWrong, flow_program};
 ghost use Rattle.pw_law_refine.specs.Whole.{CheckedIsLowerable, ProgramsKeepRuns};
 ghost use Rattle.pw_law_accept.specs.Linked.{AreLinked, AreNamedPlainly, HaveRightItems};
 
@@ -205,9 +205,9 @@ pub fn accepted_is_lowerable()
     checked_functions_are_formed();
 }
 
-/// So the law of lowering rests on that of programs alone.
+/// So the law of lowering rests on that of programs, and on that of the source.
 pub fn lowering_rests_on_programs()
-    ensures { ProgramsKeepRuns → LoweringKeepsRuns }
+    ensures { ProgramsKeepRuns → SourceIsNeverWrong → LoweringKeepsRuns }
 {
     accepted_is_lowerable();
     layers_rest_on_programs();

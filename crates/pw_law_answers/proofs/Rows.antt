@@ -3,11 +3,10 @@ use Rattle.std.proofs.Common.{replicate, ◌≡◌, ◌⊎◌, ℕ, zero, suc, �
 use Rattle.std.proofs.Math.ListN.{length-replicate, get_or-replicate, length-set}
 use Rattle.std.specs.Prelude.{◌↔◌, bit_or}
 use Rattle.std.specs.Int.{bit_at, div_ceil}
-use Rattle.std.specs.Global.{Vec}
+use Rattle.smallvec.specs.SmallVec.{SmallVec}
 use Rattle.std.proofs.lemmas.Bool.{cases_eq, cases_lt}
 use Rattle.std.proofs.lemmas.List.{get_or_past}
 use Rattle.std.proofs.lemmas.Nat.Bits.{bit_at-zero}
-use denote.RawPtr.{null_ptr}
 use Rattle.pw_fix.specs.Words.{HasBit}
 use Rattle.pw_fix.specs.Row.{Holds}
 use Rattle.pw_fix.specs.declared.bit_row.BitRow.{BitRow}
@@ -16,12 +15,12 @@ use Rattle.pw_law_answers.proofs.Telling.{Told}
 
 -- ---- words
 
-words_of : (items : List ℕ) → length items < 2 ^ 63 → Vec ℕ
-words_of items small = record { ptr = null_ptr; len = length items; cap = length items; alloc = record { memory = record { seal = tt } }; items = items; ok = (refl, omega arith); small = small }
+words_of : List ℕ → SmallVec ℕ
+words_of items = record { items = items; capacity = length items }
 
-words_are : (items : List ℕ) (small : length items < 2 ^ 63) → (words_of items small).items ≡ items
+words_are : (items : List ℕ) → (words_of items).items ≡ items
 unfolding words_of
-words_are items small = refl
+words_are items = refl
 
 -- ---- rows
 
@@ -44,16 +43,12 @@ no_bit m k h =
     let none : bit_at 0 (k % 64) ≡ 0 = bit_at-zero (k % 64) in
     omega (arith, on, none)
 
-few_words : (n : ℕ) → n < 2 ^ 63 → div_ceil n 64 < 2 ^ 63
-few_words n small = omega arith
-
-none_in_row : (n : ℕ) (P : ℕ → Type 0) → n < 2 ^ 63 → ((k : ℕ) → P k → ⊥) → RowOf n P
-none_in_row n P small none =
+none_in_row : (n : ℕ) (P : ℕ → Type 0) → ((k : ℕ) → P k → ⊥) → RowOf n P
+none_in_row n P none =
     let items = zeros (div_ceil n 64) in
     let long : length items ≡ div_ceil n 64 = length-replicate (div_ceil n 64) 0 in
-    let fits : length items < 2 ^ 63 = let few = few_words n small in omega (arith, long, few) in
-    let words = words_of items fits in
-    let are : ◌≡◌ {A = List ℕ} words.items items = words_are items fits in
+    let words = words_of items in
+    let are : ◌≡◌ {A = List ℕ} words.items items = words_are items in
     let empty : (k : ℕ) → HasBit words.items k → ⊥ = λ k h. no_bit (div_ceil n 64) k (subst (λ (ws : List ℕ). HasBit ws k) are h) in
     record {
       row = record { len = n; words = words; enough = ap length are ∙ long; unused = λ i le. empty i };
@@ -61,8 +56,8 @@ none_in_row n P small none =
       holds = λ k. (λ h. absurd (empty k h), λ p. absurd (none k p));
     }
 
-one_more_in_row : (n : ℕ) (P Q : ℕ → Type 0) (i : ℕ) → n < 2 ^ 63 → i < n → ((k : ℕ) → Q k ↔ ((k ≡ i) ⊎ P k)) → RowOf n P → RowOf n Q
-one_more_in_row n P Q i small lt more old =
+one_more_in_row : (n : ℕ) (P Q : ℕ → Type 0) (i : ℕ) → i < n → ((k : ℕ) → Q k ↔ ((k ≡ i) ⊎ P k)) → RowOf n P → RowOf n Q
+one_more_in_row n P Q i lt more old =
     let ws = old.row.words.items in
     let w = bit_or (get_or ws (i / 64) 0) (1 * 2 ^ (i % 64) % 2 ^ 64) in
     let items = set ws (i / 64) w in
@@ -70,9 +65,8 @@ one_more_in_row n P Q i small lt more old =
     let there : i / 64 < length ws = place_within old.row.len i (length ws) old.row.enough within in
     let same : length items ≡ length ws = length-set ws (i / 64) w in
     let enough : length items ≡ div_ceil old.row.len 64 = same ∙ old.row.enough in
-    let fits : length items < 2 ^ 63 = let few = few_words old.row.len (let long = old.long in omega (arith, small, long)) in omega (arith, enough, few) in
-    let words = words_of items fits in
-    let are : ◌≡◌ {A = List ℕ} words.items items = words_are items fits in
+    let words = words_of items in
+    let are : ◌≡◌ {A = List ℕ} words.items items = words_are items in
     let bits : (k : ℕ) → HasBit words.items k ↔ ((k ≡ i) ⊎ HasBit ws k) = λ k. subst (λ (xs : List ℕ). HasBit xs k ↔ ((k ≡ i) ⊎ HasBit ws k)) (sym are) (set_bit ws i k there) in
     record {
       row = record { len = old.row.len; words = words; enough = ap length are ∙ enough; unused = λ k le h. elim ((bits k).0 h) [ inl e ↦ omega (arith, le, e, within) | inr b ↦ old.row.unused k le b ] };
@@ -86,13 +80,13 @@ one_more_in_row n P Q i small lt more old =
 same_in_row : (n : ℕ) (P Q : ℕ → Type 0) → ((k : ℕ) → Q k ↔ P k) → RowOf n P → RowOf n Q
 same_in_row n P Q same old = record { row = old.row; long = old.long; holds = λ k. (λ h. (same k).1 ((old.holds k).0 h), λ q. (old.holds k).1 ((same k).0 q)) }
 
-module _ (n : ℕ) (P : ℕ → Type 0) (small : n < 2 ^ 63) (tell : (k : ℕ) → Told (P k)) where
+module _ (n : ℕ) (P : ℕ → Type 0) (tell : (k : ℕ) → Told (P k)) where
   row_up_to : (m : ℕ) → m ≤ n → RowOf n (λ k. (k < m) × P k)
-  row_up_to zero le = none_in_row n (λ k. (k < 0) × P k) small (λ k p. let lt = p.0 in omega (arith, lt))
+  row_up_to zero le = none_in_row n (λ k. (k < 0) × P k) (λ k p. let lt = p.0 in omega (arith, lt))
   row_up_to (suc m) le = by (tell m) (row_up_to m (omega (arith, le)))
     where
       by : Told (P m) → RowOf n (λ k. (k < m) × P k) → RowOf n (λ k. (k < suc m) × P k)
-      by (inl p) old = one_more_in_row n (λ k. (k < m) × P k) (λ k. (k < suc m) × P k) m small (omega (arith, le)) (λ k. (
+      by (inl p) old = one_more_in_row n (λ k. (k < m) × P k) (λ k. (k < suc m) × P k) m (omega (arith, le)) (λ k. (
         λ q. elim (cases_eq k m) [ inl e ↦ inl e | inr other ↦ inr ((let lt = q.0 in omega (arith, lt, other)), q.1) ],
         λ q. elim q [ inl e ↦ (omega (arith, e), subst P (sym e) p) | inr r ↦ ((let lt = r.0 in omega (arith, lt)), r.1) ],
       )) old

@@ -32,11 +32,8 @@ answer P (inr lacks) = (false, (λ t. absurd (untrue t), λ p. absurd (lacks p))
     untrue t = cc
 
 module _ (g : CallGraph) (graph : IsGraph g) where
-  small : length g.functions < 2 ^ 63
-  small = let few = graph.functions in omega (arith, few)
-
   row_in : (P : ℕ → Type 0) → ((k : ℕ) → Told (P k)) → ((k : ℕ) → P k → k < length g.functions) → RowOf (length g.functions) P
-  row_in P tell within = row_of (length g.functions) P small tell within
+  row_in P tell within = row_of (length g.functions) P tell within
 
   -- ---- one web
 

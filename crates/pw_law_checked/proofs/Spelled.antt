@@ -184,9 +184,8 @@ mutual
   stmt_rest (S.Do n st e) z h = (expr_rest e _ (stmt_rest st _ h.1).1.1).1.1
   stmt_rest (S.For n a b c st) z h = stmt_rest st z (optional_rest c _ (optional_rest b _ (optional_rest a _ h.1.1).1).1).1
   stmt_rest (S.Goto n w) z h = h.1.1.1
-  stmt_rest (S.Continue n) z h = h.1.1
-  stmt_rest (S.Break n) z h = h.1.1
   stmt_rest (S.Return n e) z h = (optional_rest e _ h.1).1
+  stmt_rest _ z h = h.1.1
 
   pub alternative_rest : (a : Alternative) (z : List Symbol) → AreShort (spell_alternative a z) → AreShort z
   alternative_rest S.NoElse z h = h

@@ -9,18 +9,13 @@ use Rattle.pw_tree.specs.Trees as S
 abbrev mutual
   pub HasText : Stmt → Type 0
   HasText (S.Compound b) = BlockHasText b
-  HasText (S.Expression e) = Unit {0}
-  HasText (S.Empty t) = Unit {0}
   HasText (S.Labeled ls s) = (ls ≢ []) × HasText s
   HasText (S.If t c s a) = HasText s × AlternativeHasText a
   HasText (S.Switch t e s) = HasText s
   HasText (S.While t e s) = HasText s
   HasText (S.Do t s e) = HasText s
   HasText (S.For t a b c s) = HasText s
-  HasText (S.Goto t w) = Unit {0}
-  HasText (S.Continue t) = Unit {0}
-  HasText (S.Break t) = Unit {0}
-  HasText (S.Return t e) = Unit {0}
+  HasText _ = Unit {0}
 
   pub AlternativeHasText : Alternative → Type 0
   AlternativeHasText S.NoElse = Unit {0}
@@ -63,18 +58,13 @@ mutual
 
   stmt_text : (env : Env) (s : Stmt) → WellFormedStmt env s → HasText s
   stmt_text env (S.Compound b) h = block_text env b h
-  stmt_text env (S.Expression e) h = tt
-  stmt_text env (S.Empty t) h = tt
   stmt_text env (S.Labeled ls s) h = (some_there ls h.0, stmt_text (after_labels env ls) s h.3)
   stmt_text env (S.If t c s a) h = (stmt_text (after_expr env c) s h.1, alternative_text (after_stmt (after_expr env c) s) a h.3)
   stmt_text env (S.Switch t e s) h = stmt_text (after_expr env e) s h.1
   stmt_text env (S.While t e s) h = stmt_text (after_expr env e) s h.1
   stmt_text env (S.Do t s e) h = stmt_text env s h.0
   stmt_text env (S.For t a b c s) h = stmt_text (after_optional (after_optional (after_optional env a) b) c) s h.3
-  stmt_text env (S.Goto t w) h = tt
-  stmt_text env (S.Continue t) h = tt
-  stmt_text env (S.Break t) h = tt
-  stmt_text env (S.Return t e) h = tt
+  stmt_text env _ h = tt
 
   alternative_text : (env : Env) (a : Alternative) → WellFormedAlternative env a → AlternativeHasText a
   alternative_text env S.NoElse h = tt

@@ -1,6 +1,6 @@
 -- What an operation of a directed function asks for is fine: values that lead to functions whose address is taken,
 -- calls of the graph, and accesses by name of globals that the function has no register for.
-use Rattle.std.proofs.Common.{◌≡◌, ℕ, Bool, true, false, ◌&&◌, if◌then◌else◌, List, map, refl, ap, subst, ◌∙◌, inl, inr, [], ◌∷◌, arith, length, ◌≤◌, ◌+◌}
+use Rattle.std.proofs.Common.{◌≡◌, ℕ, Bool, true, false, if◌then◌else◌, List, map, refl, ap, subst, ◌∙◌, inl, inr, [], ◌∷◌, arith, length, ◌≤◌, ◌+◌}
 use Rattle.std.specs.Prelude.{Option, Some, None}
 use Rattle.std.specs.List.{flat_map, AllByRecursion}
 use Rattle.std.specs.Str.{bytes_eq}
@@ -8,8 +8,6 @@ use Rattle.std.proofs.lemmas.Option.{same_Some}
 use Rattle.std.proofs.lemmas.Slice.Eq.{bytes_eq-Decides}
 use Rattle.pw_value.specs.declared.value.Kind.{Kind}
 use Rattle.pw_value.specs.declared.value.Value.{Value}
-use Rattle.pw_value.specs.declared.value.Value.TheVariants.{Undefined, Num, Null, At, Piece}
-use Rattle.pw_value.specs.declared.value.Pointer.TheVariants as P
 use Rattle.pw_files.proofs.Standing.{Has, has_by, contains_by, has_right, has_flat, has_map}
 use Rattle.pw_db.specs.declared.database.Web.{Web}
 use Rattle.pw_db.specs.declared.database.Role.{Role}
@@ -23,14 +21,16 @@ use Rattle.pw_db_sound.specs.CallGraphs.{Calls, References}
 use Rattle.pw_webflow.specs.declared.web.WebOp.TheVariants.{Flow, Write}
 use Rattle.pw_webflow.specs.Direction.{register_of, read_of, write_of, directed_op}
 use Rattle.pw_run_languages.specs.Values.{unary, extension}
-use Rattle.pw_run_languages.specs.Programs.{Program, functions_of, globals_of, names_of, function_at, shape_of}
-use Rattle.pw_run_languages.specs.Commands.{Command, Give, Poke, GetGlobal, PutGlobal, Enter, Fail, give, enter_as, enter_at, enter_value, command, Combine}
-use Rattle.pw_run_languages.specs.LawfulPrograms.{IsProgram, NamesRightly, ops_of, addressed, taken_names, eligible_names, has_name, has_shape, called, read_by, written_by, node_of, graph_of}
+use Rattle.pw_run_languages.specs.Programs.{Program, functions_of, globals_of, names_of}
+use Rattle.pw_run_languages.specs.Commands.{Command, Give, Poke, GetGlobal, PutGlobal, Enter, Fail, give, command, Combine}
+use Rattle.pw_run_languages.specs.LawfulPrograms.{IsProgram, NamesRightly, ops_of, addressed, taken_names, eligible_names, read_by, written_by, node_of, graph_of}
 use Rattle.pw_run_languages.specs.Direction.{directives_of}
-use Rattle.pw_law_direction.proofs.Lists.{has_filter, has_named, named_has, map_each}
+use Rattle.pw_law_direction.proofs.Lists.{has_filter, has_named, named_has}
 use Rattle.pw_law_direction.specs.Values.{IsTaken, FineValue}
+use Rattle.pw_law_direction.specs.SideBySide.{IsCall}
 use Rattle.pw_law_direction.proofs.Values.{FineIfValue, unary_fine, extension_fine}
-use Rattle.pw_law_direction.proofs.Numbers.{function_there, function_fine, pointer_fine, behind_fine}
+use Rattle.pw_law_direction.proofs.Numbers.{function_fine, pointer_fine, behind_fine}
+use Rattle.pw_law_direction.proofs.Edges.{MayCall, call-allowed}
 use Rattle.pw_law_direction.proofs.Trails.{is_kept, Accesses}
 
 -- the directives hold no register for a global that the operation reads or writes
@@ -54,19 +54,7 @@ write_flow webs (Some r) g a k o n e = absurd cc
 pub flow_op : (webs : List (Web × Role)) (k o : Op) → directed_op webs k ≡ Flow o → (k ≡ o) × Lacks webs o
 flow_op webs (op.LoadG t g k) o e = read_flow webs (register_of webs g) t g k o refl e
 flow_op webs (op.StoreG g a k) o e = write_flow webs (register_of webs g) g a k o refl e
-flow_op webs (op.Const t n) o e = let same = flow_is (op.Const t n) o e in (same, subst (Lacks webs) same tt)
-flow_op webs (op.Copy t a) o e = let same = flow_is (op.Copy t a) o e in (same, subst (Lacks webs) same tt)
-flow_op webs (op.Un u t a) o e = let same = flow_is (op.Un u t a) o e in (same, subst (Lacks webs) same tt)
-flow_op webs (op.Bin u t a b) o e = let same = flow_is (op.Bin u t a b) o e in (same, subst (Lacks webs) same tt)
-flow_op webs (op.Ext u t a) o e = let same = flow_is (op.Ext u t a) o e in (same, subst (Lacks webs) same tt)
-flow_op webs (op.AddrGlobal t g n) o e = let same = flow_is (op.AddrGlobal t g n) o e in (same, subst (Lacks webs) same tt)
-flow_op webs (op.AddrSlot t s) o e = let same = flow_is (op.AddrSlot t s) o e in (same, subst (Lacks webs) same tt)
-flow_op webs (op.AddrFn t f) o e = let same = flow_is (op.AddrFn t f) o e in (same, subst (Lacks webs) same tt)
-flow_op webs (op.Load u t a) o e = let same = flow_is (op.Load u t a) o e in (same, subst (Lacks webs) same tt)
-flow_op webs (op.Store u a b) o e = let same = flow_is (op.Store u a b) o e in (same, subst (Lacks webs) same tt)
-flow_op webs (op.Move a b size unit) o e = let same = flow_is (op.Move a b size unit) o e in (same, subst (Lacks webs) same tt)
-flow_op webs (op.Call t f args) o e = let same = flow_is (op.Call t f args) o e in (same, subst (Lacks webs) same tt)
-flow_op webs (op.CallInd t a shape args) o e = let same = flow_is (op.CallInd t a shape args) o e in (same, subst (Lacks webs) same tt)
+flow_op webs k o e = let same = flow_is k o e in (same, subst (Lacks webs) same tt)
 
 -- a register that directives hold for a global is that of one of the webs
 register_by : (b : Bool) (u : Web × Role) (rest : List (Web × Role)) (g : List ℕ) (r : ℕ) → ◌≡◌ {A = Option ℕ} (if b then Some u.0.reg else register_of rest g) (Some r)
@@ -93,19 +81,7 @@ no_flow k r a e = cc
 pub write_op : (webs : List (Web × Role)) (k : Op) (r a : ℕ) → directed_op webs k ≡ Write r a → (w : Web × Role) × Has w webs × (w.0.reg ≡ r)
 write_op webs (op.LoadG t g k) r a e = absurd (no_read (register_of webs g) t (op.LoadG t g k) r a e)
 write_op webs (op.StoreG g b k) r a e = write_by webs (register_of webs g) g b (op.StoreG g b k) r a refl e
-write_op webs (op.Const t n) r a e = absurd (no_flow (op.Const t n) r a e)
-write_op webs (op.Copy t b) r a e = absurd (no_flow (op.Copy t b) r a e)
-write_op webs (op.Un u t b) r a e = absurd (no_flow (op.Un u t b) r a e)
-write_op webs (op.Bin u t b c) r a e = absurd (no_flow (op.Bin u t b c) r a e)
-write_op webs (op.Ext u t b) r a e = absurd (no_flow (op.Ext u t b) r a e)
-write_op webs (op.AddrGlobal t g n) r a e = absurd (no_flow (op.AddrGlobal t g n) r a e)
-write_op webs (op.AddrSlot t s) r a e = absurd (no_flow (op.AddrSlot t s) r a e)
-write_op webs (op.AddrFn t f) r a e = absurd (no_flow (op.AddrFn t f) r a e)
-write_op webs (op.Load u t b) r a e = absurd (no_flow (op.Load u t b) r a e)
-write_op webs (op.Store u b c) r a e = absurd (no_flow (op.Store u b c) r a e)
-write_op webs (op.Move b c size unit) r a e = absurd (no_flow (op.Move b c size unit) r a e)
-write_op webs (op.Call t f args) r a e = absurd (no_flow (op.Call t f args) r a e)
-write_op webs (op.CallInd t b shape args) r a e = absurd (no_flow (op.CallInd t b shape args) r a e)
+write_op webs k r a e = absurd (no_flow k r a e)
 
 -- a global is accessed by name
 abbrev pub MayAccess : Program → List (List ℕ × Directives) → List ℕ → List ℕ → Type 0
@@ -124,6 +100,12 @@ give_allowed : (p : Program) (d : List (List ℕ × Directives)) (f : List ℕ) 
 give_allowed p d f t (Some v) h = h
 give_allowed p d f t None h = tt
 
+-- what a call may ask for
+may_call : (p : Program) (d : List (List ℕ × Directives)) (f : List ℕ) (c : Command) → MayCall p f c → IsAllowed p d f c
+may_call p d f (Enter t g args) h = h
+may_call p d f Fail h = tt
+may_call p d f _ h = absurd h
+
 module _ (p : Program) (d : List (List ℕ × Directives)) (ok : IsProgram p) where
   -- ---- names
 
@@ -137,15 +119,6 @@ module _ (p : Program) (d : List (List ℕ × Directives)) (ok : IsProgram p) wh
   rightly fn o among has = ok.ops fn o (contains_by fn (functions_of p) among) (contains_by o (ops_of fn) has)
 
   -- ---- the graph
-
-  edge : (fn : FlowFn) (o : Op) (f : List ℕ) → Has fn (functions_of p) → Has o (ops_of fn) → Has f (called p o) → Calls (graph_of p) fn.name f
-  unfolding graph_of
-  edge fn o f among has there = record {
-    node = node_of p fn;
-    there = contains_by (node_of p fn) (map (node_of p) (functions_of p)) (has_map (node_of p) fn (functions_of p) among);
-    name = refl;
-    call = contains_by f (node_of p fn).calls (has_flat (called p) o f (ops_of fn) has there);
-  }
 
   kept_name : (v : List ℕ) → is_kept p v ≡ true → Has v (eligible_names p)
   kept_name v e = named_has (eligible_names p) v e
@@ -170,45 +143,17 @@ module _ (p : Program) (d : List (List ℕ × Directives)) (ok : IsProgram p) wh
         (has_flat (written_by p) (op.StoreG v a k) v (ops_of fn) has (has_filter (bytes_eq v) v (eligible_names p) (kept_name v e) ((bytes_eq-Decides v v).1 refl)));
   })
 
-  -- ---- calls through values
+  -- ---- calls
 
-  both : (a b : Bool) → a ≡ true → b ≡ true → (a && b) ≡ true
-  both true b x y = y
-  both false b x y = absurd cc
-
-  as_by : (fn : FlowFn) (t : Option ℕ) (a : ℕ) (shape : List ℕ) (temps : List ℕ) (args : List Value) (f own : List ℕ) (b : Bool) → Has fn (functions_of p) → Has (op.CallInd t a shape temps) (ops_of fn) → AllByRecursion (FineValue p) args
-      → Has f (names_of p) → IsTaken p f → shape_of p f ≡ Some own → bytes_eq own shape ≡ b → IsAllowed p d fn.name (if b then Enter t f args else Fail)
-  as_by fn t a shape temps args f own true among has all there taken s e =
-      let shaped : has_shape (shape_of p f) shape ≡ true = ap (λ (o : Option (List ℕ)). has_shape o shape) s ∙ e in
-      let may = both (has_name (taken_names p) f) (has_shape (shape_of p f) shape) taken shaped in
-      (all, edge fn (op.CallInd t a shape temps) f among has (has_filter (λ (name : List ℕ). has_name (taken_names p) name && has_shape (shape_of p name) shape) f (names_of p) there may))
-  as_by fn t a shape temps args f own false among has all there taken s e = tt
-
-  shaped_by : (fn : FlowFn) (t : Option ℕ) (a : ℕ) (shape : List ℕ) (temps : List ℕ) (args : List Value) (f : List ℕ) (own : Option (List ℕ)) → Has fn (functions_of p) → Has (op.CallInd t a shape temps) (ops_of fn) → AllByRecursion (FineValue p) args
-      → Has f (names_of p) → IsTaken p f → shape_of p f ≡ own → IsAllowed p d fn.name (enter_as t shape args (Some f) own)
-  shaped_by fn t a shape temps args f (Some own) among has all there taken s = as_by fn t a shape temps args f own (bytes_eq own shape) among has all there taken s refl
-  shaped_by fn t a shape temps args f None among has all there taken s = tt
-
-  at_by : (fn : FlowFn) (t : Option ℕ) (a : ℕ) (shape : List ℕ) (temps : List ℕ) (args : List Value) (n : ℕ) (f : Option (List ℕ)) → Has fn (functions_of p) → Has (op.CallInd t a shape temps) (ops_of fn) → AllByRecursion (FineValue p) args
-      → FineValue p (At (P.Function n)) → function_at p n ≡ f → IsAllowed p d fn.name (enter_at p t shape args f)
-  at_by fn t a shape temps args n (Some f) among has all fine e = shaped_by fn t a shape temps args f (shape_of p f) among has all (function_there p n f e).0 (fine f e) refl
-  at_by fn t a shape temps args n None among has all fine e = tt
-
-  enter_allowed : (fn : FlowFn) (t : Option ℕ) (a : ℕ) (shape : List ℕ) (temps : List ℕ) (v : Value) (args : List Value) → Has fn (functions_of p) → Has (op.CallInd t a shape temps) (ops_of fn) → AllByRecursion (FineValue p) args
-      → FineValue p v → IsAllowed p d fn.name (enter_value p t v shape args)
-  enter_allowed fn t a shape temps (At (P.Function n)) args among has all fine = at_by fn t a shape temps args n (function_at p n) among has all fine refl
-  enter_allowed fn t a shape temps (At (P.Object o i)) args among has all fine = tt
-  enter_allowed fn t a shape temps Undefined args among has all fine = tt
-  enter_allowed fn t a shape temps (Num n) args among has all fine = tt
-  enter_allowed fn t a shape temps Null args among has all fine = tt
-  enter_allowed fn t a shape temps (Piece x i) args among has all fine = tt
+  call_allowed : (fn : FlowFn) (o : Op) (base : ℕ) (value : ℕ → Value) → IsCall o → Has fn (functions_of p) → Has o (ops_of fn) → ((t : ℕ) → FineValue p (value t)) → IsAllowed p d fn.name (command p base o value)
+  call_allowed fn o base value call among has fine =
+      may_call p d fn.name (command p base o value) (call-allowed p fn o base value call (contains_by fn (functions_of p) among) (contains_by o (ops_of fn) has) fine)
 
   -- ---- operations
 
   pub command_allowed : (fn : FlowFn) (o : Op) → Has fn (functions_of p) → Has o (ops_of fn) → Lacks (directives_of d fn.name).webs o → (base : ℕ) (value : ℕ → Value) → length (globals_of p) ≤ base → ((t : ℕ) → FineValue p (value t))
       → IsAllowed p d fn.name (command p base o value)
   unfolding command
-  command_allowed fn (op.Const t n) among has lacks base value low fine = tt
   command_allowed fn (op.Copy t a) among has lacks base value low fine = fine a
   command_allowed fn (op.Un k t a) among has lacks base value low fine = give_allowed p d fn.name t (unary k (value a)) (unary_fine p k (value a))
   command_allowed fn (op.Bin k t a b) among has lacks base value low fine = fine a
@@ -220,10 +165,7 @@ module _ (p : Program) (d : List (List ℕ × Directives)) (ok : IsProgram p) wh
       function_fine p f (taken_by_op fn (op.AddrFn t f) f among has (inl refl)) (has_by f (names_of p) (rightly fn (op.AddrFn t f) among has))
   command_allowed fn (op.LoadG t g k) among has lacks base value low fine = λ e. record { refers = reads fn t g k among has e; lacks = lacks }
   command_allowed fn (op.StoreG g a k) among has lacks base value low fine = (fine a, λ e. record { refers = writes fn g a k among has e; lacks = lacks })
-  command_allowed fn (op.Load k t a) among has lacks base value low fine = tt
   command_allowed fn (op.Store k a b) among has lacks base value low fine = fine b
-  command_allowed fn (op.Move a b size unit) among has lacks base value low fine = tt
-  command_allowed fn (op.Call t f args) among has lacks base value low fine =
-      (map_each (FineValue p) value fine args, edge fn (op.Call t f args) f among has (inl refl))
-  command_allowed fn (op.CallInd t a shape args) among has lacks base value low fine =
-      enter_allowed fn t a shape args (value a) (map value args) among has (map_each (FineValue p) value fine args) (fine a)
+  command_allowed fn (op.Call t f args) among has lacks base value low fine = call_allowed fn (op.Call t f args) base value tt among has fine
+  command_allowed fn (op.CallInd t a shape args) among has lacks base value low fine = call_allowed fn (op.CallInd t a shape args) base value tt among has fine
+  command_allowed fn _ among has lacks base value low fine = tt

@@ -109,21 +109,8 @@ unfolding directed
 none_entered f = refl
 
 pub op_is : (o : Op) → directed_op [] o ≡ Flow o
-op_is (op.Const t n) = refl
-op_is (op.Copy t a) = refl
-op_is (op.Un k t a) = refl
-op_is (op.Bin k t a b) = refl
-op_is (op.Ext k t a) = refl
-op_is (op.AddrGlobal t g n) = refl
-op_is (op.AddrSlot t s) = refl
-op_is (op.AddrFn t f) = refl
 op_is (op.LoadG t g k) = refl
-op_is (op.StoreG g a k) = refl
-op_is (op.Load k t a) = refl
-op_is (op.Store k a b) = refl
-op_is (op.Move a b size unit) = refl
-op_is (op.Call t f args) = refl
-op_is (op.CallInd t a shape args) = refl
+op_is _ = refl
 
 -- ---- functions by their names
 

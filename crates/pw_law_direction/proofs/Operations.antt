@@ -1,6 +1,6 @@
 -- What an operation of a function under directives enters: a function that the graph says it calls.
 use Rattle.std.proofs.Common.{◌≡◌, ℕ, true, List, map, refl, sym, subst}
-use Rattle.std.specs.Prelude.{Option, Some, None, Contains}
+use Rattle.std.specs.Prelude.{Option, Contains}
 use Rattle.std.specs.List.{AllByRecursion}
 use Rattle.pw_value.specs.declared.value.Value.{Value}
 use Rattle.pw_files.proofs.Standing.{Has, has_by, contains_by, has_map_back, has_flat}
@@ -15,11 +15,12 @@ use Rattle.pw_webflow.specs.declared.web.WebOp.TheVariants.{Flow}
 use Rattle.pw_webflow.specs.declared.web.WebBlock.{WebBlock}
 use Rattle.pw_webflow.specs.Direction.{directed, directed_op, directed_block}
 use Rattle.pw_db_sound.specs.CallGraphs.{Calls}
-use Rattle.pw_run_languages.specs.Values.{unary, extension}
 use Rattle.pw_run_languages.specs.Programs.{Program}
 use Rattle.pw_run_languages.specs.Commands as command
 use Rattle.pw_run_languages.specs.LawfulPrograms.{ops_of, graph_of}
 use Rattle.pw_run_languages.specs.Direction.{directives_of}
+use Rattle.pw_law_operations.specs.Laws.{StaysInside}
+use Rattle.pw_law_operations.proofs.Asking.{stays_inside}
 use Rattle.pw_law_direction.specs.Values.{FineValue}
 use Rattle.pw_law_direction.specs.DirectedLaws.{OperationsCallByTheGraph}
 use Rattle.pw_law_direction.specs.SideBySide.{IsCall}
@@ -28,18 +29,11 @@ use Rattle.pw_law_direction.proofs.Edges.{MayCall, call-allowed}
 
 -- ---- only a call enters a function
 
-gives_alone : (x : ℕ) (v : Option Value) (t : Option ℕ) (g : List ℕ) (args : List Value) → command.give x v ≡ command.Enter t g args → ⊥
-gives_alone x (Some v) t g args e = cc
-gives_alone x None t g args e = cc
-
 is_call : (p : Program) (o : Op) (base : ℕ) (value : ℕ → Value) (t : Option ℕ) (g : List ℕ) (args : List Value) → command.command p base o value ≡ command.Enter t g args
     → IsCall o × (op_calls o ≡ true)
-unfolding command.command
 is_call p (op.Call x h temps) base value t g args e = (tt, refl)
 is_call p (op.CallInd x a shape temps) base value t g args e = (tt, refl)
-is_call p (op.Un k x a) base value t g args e = absurd (gives_alone x (unary k (value a)) t g args e)
-is_call p (op.Ext k x a) base value t g args e = absurd (gives_alone x (extension k (value a)) t g args e)
-is_call p _ base value t g args e = absurd cc
+is_call p o base value t g args e = absurd (subst StaysInside e (stays_inside p base o value refl))
 
 -- ---- an operation of the function under directives is one of the function
 

@@ -42,21 +42,11 @@ store-follows p d x t g k ops None lawful is s a e f = stores-follow p d x t g k
 inside-by : TakenFunctionsAreFine → (p : Program) (d : List (List ℕ × Directives)) (x : Pair) (ops : List Op) → IsProgram p → IsDatabase d → Sound (graph_of p) d → IsAlike p d x
     → x.frame.ops ≡ ops → StaysInFunction ops x.frame.end → StepsFollow p d x
 inside-by fine p d x [] lawful is s a e h = blocks-follow p d x a e h
-inside-by fine p d x (op.Const t n ∷ ops) lawful is s a e h = operations-follow fine p d x (op.Const t n) ops lawful a e tt
-inside-by fine p d x (op.Copy t b ∷ ops) lawful is s a e h = operations-follow fine p d x (op.Copy t b) ops lawful a e tt
-inside-by fine p d x (op.Un k t b ∷ ops) lawful is s a e h = operations-follow fine p d x (op.Un k t b) ops lawful a e tt
-inside-by fine p d x (op.Bin k t b c ∷ ops) lawful is s a e h = operations-follow fine p d x (op.Bin k t b c) ops lawful a e tt
-inside-by fine p d x (op.Ext k t b ∷ ops) lawful is s a e h = operations-follow fine p d x (op.Ext k t b) ops lawful a e tt
-inside-by fine p d x (op.AddrGlobal t g n ∷ ops) lawful is s a e h = operations-follow fine p d x (op.AddrGlobal t g n) ops lawful a e tt
-inside-by fine p d x (op.AddrSlot t n ∷ ops) lawful is s a e h = operations-follow fine p d x (op.AddrSlot t n) ops lawful a e tt
-inside-by fine p d x (op.AddrFn t g ∷ ops) lawful is s a e h = operations-follow fine p d x (op.AddrFn t g) ops lawful a e tt
 inside-by fine p d x (op.LoadG t g k ∷ ops) lawful is s a e h = load-follows p d x t g k ops (register_of (webs_of d x.frame.function) g) lawful is s a e refl
 inside-by fine p d x (op.StoreG g t k ∷ ops) lawful is s a e h = store-follows p d x t g k ops (register_of (webs_of d x.frame.function) g) lawful is s a e refl
-inside-by fine p d x (op.Load k t b ∷ ops) lawful is s a e h = operations-follow fine p d x (op.Load k t b) ops lawful a e tt
-inside-by fine p d x (op.Store k b c ∷ ops) lawful is s a e h = operations-follow fine p d x (op.Store k b c) ops lawful a e tt
-inside-by fine p d x (op.Move b c size unit ∷ ops) lawful is s a e h = operations-follow fine p d x (op.Move b c size unit) ops lawful a e tt
 inside-by fine p d x (op.Call t f args ∷ ops) lawful is s a e h = absurd h
 inside-by fine p d x (op.CallInd t b shape args ∷ ops) lawful is s a e h = absurd h
+inside-by fine p d x (o ∷ ops) lawful is s a e h = operations-follow fine p d x o ops lawful a e tt
 
 pub inside-follows : TakenFunctionsAreFine → InsideFollows
 inside-follows fine p d x lawful is s a h = inside-by fine p d x x.frame.ops lawful is s a refl h

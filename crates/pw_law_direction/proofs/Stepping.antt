@@ -532,11 +532,7 @@ module _ (p : Program) (ok : IsProgram p) where
 
   value_fit : (t : Option ℕ) (v : Value) (shape : List ℕ) (args : List Value) → FineValue p v → IsFit p (command.enter_value p t v shape args)
   value_fit t (At (P.Function n)) shape args fine = at_fit t shape args n (function_at p n) fine refl
-  value_fit t (At (P.Object o i)) shape args fine = tt
-  value_fit t Undefined shape args fine = tt
-  value_fit t (Num n) shape args fine = tt
-  value_fit t Null shape args fine = tt
-  value_fit t (Piece a i) shape args fine = tt
+  value_fit t _ shape args fine = tt
 
   give_fit : (t : ℕ) (v : Option Value) → IsFit p (command.give t v)
   give_fit t (Some v) = tt
@@ -544,21 +540,14 @@ module _ (p : Program) (ok : IsProgram p) where
 
   command_fit : (fn : FlowFn) (o : Op) → Has fn (functions_of p) → Has o (ops_of fn) → (base : ℕ) (value : ℕ → Value) → ((t : ℕ) → FineValue p (value t)) → IsFit p (command_of p base o value)
   unfolding command_of
-  command_fit fn (op.Const t n) among has base value fine = tt
-  command_fit fn (op.Copy t a) among has base value fine = tt
   command_fit fn (op.Un k t a) among has base value fine = give_fit t (unary k (value a))
-  command_fit fn (op.Bin k t a b) among has base value fine = tt
   command_fit fn (op.Ext k t a) among has base value fine = give_fit t (extension k (value a))
-  command_fit fn (op.AddrGlobal t g n) among has base value fine = tt
-  command_fit fn (op.AddrSlot t s) among has base value fine = tt
-  command_fit fn (op.AddrFn t f) among has base value fine = tt
-  command_fit fn (op.LoadG t g k) among has base value fine = tt
-  command_fit fn (op.StoreG g a k) among has base value fine = tt
   command_fit fn (op.Load k t a) among has base value fine = reserved_false p (value a) (fine a)
   command_fit fn (op.Store k a b) among has base value fine = reserved_false p (value a) (fine a)
   command_fit fn (op.Move a b size unit) among has base value fine = neither (is_reserved (run_of p) (value a)) (is_reserved (run_of p) (value b)) (reserved_false p (value a) (fine a)) (reserved_false p (value b) (fine b))
   command_fit fn (op.Call t f args) among has base value fine = op_ordinary fn (op.Call t f args) f among has (inl refl)
   command_fit fn (op.CallInd t a shape args) among has base value fine = value_fit t (value a) shape (map value args) (fine a)
+  command_fit fn _ among has base value fine = tt
 
   -- ---- steps
 

@@ -200,32 +200,17 @@ command-tame p d f (op.Ext k t b) lawful fine a c h = give-tame p t _ (extension
 command-tame p d f (op.AddrGlobal t g n) lawful fine a c h = global-leads p g n (lawful.ops f.function (op.AddrGlobal t g n) a.there c) (address-taken p f.function (op.AddrGlobal t g n) g a.there c (first-there g []))
 command-tame p d f (op.AddrSlot t s) lawful fine a c h = a.slots s
 command-tame p d f (op.AddrFn t g) lawful fine a c h = fine p g (address-taken p f.function (op.AddrFn t g) g a.there c (first-there g [])) (lawful.ops f.function (op.AddrFn t g) a.there c)
-command-tame p d f (op.LoadG t g k) lawful fine a c h = absurd h
-command-tame p d f (op.StoreG g b k) lawful fine a c h = absurd h
 command-tame p d f (op.Load k t b) lawful fine a c h = a.temps b
 command-tame p d f (op.Store k b e) lawful fine a c h = (a.temps b, a.temps e)
 command-tame p d f (op.Move b e size unit) lawful fine a c h = (a.temps b, a.temps e)
-command-tame p d f (op.Call t g args) lawful fine a c h = absurd h
-command-tame p d f (op.CallInd t b shape args) lawful fine a c h = absurd h
+command-tame p d f _ lawful fine a c h = absurd h
 
 -- ---- operations
 
 stays-flow : (webs : List (Web × Role)) (o : Op) → LeavesGlobals o → directed_op webs o ≡ Flow o
-stays-flow webs (op.Const t n) h = refl
-stays-flow webs (op.Copy t b) h = refl
-stays-flow webs (op.Un k t b) h = refl
-stays-flow webs (op.Bin k t b e) h = refl
-stays-flow webs (op.Ext k t b) h = refl
-stays-flow webs (op.AddrGlobal t g n) h = refl
-stays-flow webs (op.AddrSlot t s) h = refl
-stays-flow webs (op.AddrFn t g) h = refl
 stays-flow webs (op.LoadG t g k) h = absurd h
 stays-flow webs (op.StoreG g b k) h = absurd h
-stays-flow webs (op.Load k t b) h = refl
-stays-flow webs (op.Store k b e) h = refl
-stays-flow webs (op.Move b e size unit) h = refl
-stays-flow webs (op.Call t g args) h = absurd h
-stays-flow webs (op.CallInd t b shape args) h = absurd h
+stays-flow webs _ h = refl
 
 operation-follows : (p : Program) (d : List (List ℕ × Directives)) (x : Pair) (o : Op) (ops : List Op) → IsProgram p → TakenFunctionsAreFine → IsAlike p d (with-ops (o ∷ ops) x) → LeavesGlobals o
     → StepsFollow p d (with-ops (o ∷ ops) x)

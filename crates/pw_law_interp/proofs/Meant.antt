@@ -1,9 +1,7 @@
 -- What `interp` comes to over a full build.
-use Rattle.std.specs.Prelude.{ℕ, ◌≡◌, ◌≢◌, ◌<◌, ◌≤◌, All, List, Result, Ok, Err}
+use Rattle.std.specs.Prelude.{ℕ, ◌≡◌, ◌≢◌, ◌<◌, All, List, Result, Ok, Err}
 use Rattle.std.proofs.Common.{refl, sym, ap, ◌∙◌}
 use Rattle.std.proofs.lemmas.List.Elements.{All-from_recursion}
-use Rattle.pw_value.specs.Limits.{stack_least, stack_limit}
-use Rattle.pw_db.specs.Limits.{colour_limit}
 use Rattle.pw_io.specs.Files.{Files}
 use Rattle.pw_link.specs.Linking.{linked}
 use Rattle.pw_store_modules.specs.Modules.{Texts, module_map, modules_of}
@@ -36,7 +34,7 @@ use Rattle.pw_law_interp.proofs.Told.{told_so}
 pub record Laws : Type 0 where
   pub typed : TypedExactly
   pub whole : (texts : Texts) (opts : Opts) (parts : Parts) (p : Program) → FullBuild texts opts (Ok parts) → IsProgramOf texts p → HavePlainNames texts
-      → opts.colours ≤ colour_limit → stack_least ≤ opts.stack → opts.stack ≤ stack_limit → IsWholeWith p parts opts
+      → AreOpts opts → IsWholeWith p parts opts
   pub plain : (files : Files) → HavePlainNames (module_map files)
   pub resolved : (p : Program) (frame_of : List ℕ → ℕ) (stack : ℕ) → AreChecked p → IsAccepted p frame_of stack → IsResolvedProgram p
   pub never : (p : Program) (frame_of : List ℕ → ℕ) (stack : ℕ) (input : List ℕ) (n : ℕ) → IsWellTyped p → IsResolvedProgram p → All (λ b. b < 256) input
@@ -57,7 +55,7 @@ module _ (laws : Laws) (files : Files) (opts : RunOpts) (input : List ℕ) (are 
   ends : (parts : Parts) (p : Program) (frame_of : List ℕ → ℕ) → FullBuild (module_map files) opts.build (Ok parts) → IsProgramOf (module_map files) p
       → (source_run p frame_of opts.build.stack input opts.budget).end ≢ Wrong
   ends parts p frame_of full is =
-      let whole = laws.whole (module_map files) opts.build parts p full is (laws.plain files) are.colours are.least are.most in
+      let whole = laws.whole (module_map files) opts.build parts p full is (laws.plain files) are in
       let accepted = whole.whole.accepted in
       laws.never p frame_of opts.build.stack input opts.budget accepted.typed
       (laws.resolved p (frame_in (image_of parts.objects opts.build.stack)) opts.build.stack whole.checked accepted)

@@ -40,7 +40,7 @@ use Rattle.pw_run_languages.specs.Direction.{directed_functions, MomentAlike}
 use Rattle.pw_run_languages.specs.Serving.{AllServe}
 use Rattle.pw_run_languages.specs.Standing.{pointer_address, byte_of, EventInWords}
 use Rattle.pw_run_languages.specs.LinkingLaws.{AreObjectsOf, AreNamesApart, address_of, frame_in, image_run}
-use Rattle.pw_law_source.specs.Source.{source_stages, source_runs}
+use Rattle.pw_law_source.specs.Source.{source_stages, source_progress, source_runs}
 use Rattle.pw_run_languages.specs.PlacementLaws.{DirectionKeeps, PlacesKeep}
 use Rattle.pw_run_languages.specs.SelectionLaws.{SelectionKeeps, SelectionKeepsRuns, PlacementKeeps}
 use Rattle.pw_run_languages.specs.LinkingLaws.{LinkKeeps, LinkKeepsRuns}
@@ -113,12 +113,19 @@ pub record HaveRooms (p : Program) (q : flows.Program) : Type 0 where
       HasRoom q (full_name m.name f.name) (room_of m.tree.records f)
   pub start : HasRoom q start_name start_room
 
+-- the program where no function takes room on the stack
+abbrev pub roomless : flows.Program → flows.Program
+roomless q = record q { frame_of = λ f. 0; stack = 0 }
+
 -- Flow graphs do what the program means, with their frames and their stack, and none takes more room than its source:
--- those that lowering gives, or what later passes make of them.
+-- those that lowering gives, or what later passes make of them. Where no function takes room they come as far as the source,
+-- also where that comes to an undefined operation.
 pub record Implements (p : Program) (q : flows.Program) : Type 0 where
   pub program : IsProgram q
   pub runs : (input : List ℕ) → NoneForLibrary q.frame_of → AreBytes input →
       Refines (MomentKept q) (source_stages p q.frame_of q.stack input) (flow.flow_run q input)
+  pub progress : (input : List ℕ) → AreBytes input →
+      Refines (MomentKept q) (source_progress p (λ f. 0) 0 input) (flow.flow_run (roomless q) input)
   pub rooms : HaveRooms p q
 
 abbrev pub image_of : List Object → ℕ → Image

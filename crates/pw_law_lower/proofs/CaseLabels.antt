@@ -10,7 +10,7 @@ use Rattle.std.proofs.lemmas.Map.Keys.{IsDistinct-tail}
 use Rattle.std.proofs.lemmas.Map.Made.{length-le_from_is_member, is_member-Decides}
 use Rattle.pw_types.specs.Labels.{labels_in, labels_among, labels_of_arms, labels_behind, cases_in, cases_among, cases_of_arms, cases_behind}
 use Rattle.pw_types.specs.TypedModules.{IsStatement, AreStatements, AreArms, IsElse, IsFunction}
-use Rattle.pw_types.specs.TypedTrees.{CaseValue, Statement, Empty, Evaluate, Block, If, While, Do, For, Switch, Label, Goto, Break, Continue, Return, Arms, NoArm, Arm, Otherwise, NoElse, Else, Statements, NoStatement, OneStatement, FunctionValue, ModuleValue}
+use Rattle.pw_types.specs.TypedTrees.{CaseValue, Statement, Block, If, While, Do, For, Switch, Label, Arms, NoArm, Arm, Otherwise, NoElse, Else, Statements, NoStatement, OneStatement, FunctionValue, ModuleValue}
 
 abbrev Within : List ℕ → List ℕ → Type 0
 Within xs ys = AllByRecursion (λ x. Contains ys x) xs
@@ -42,8 +42,6 @@ mutual
   unfolding IsStatement
 
   within-statement : (m : ModuleValue) (f : FunctionValue) (b c : Bool) (from : ℕ) (s : Statement) → IsStatement m f b c from s → Within (cases_in s) (labels_in s)
-  within-statement m f b c from (Empty t) h = tt
-  within-statement m f b c from (Evaluate t e) h = tt
   within-statement m f b c from (Block t first count initialisers items) h = within-statements m f b c (first + count) items h.3
   within-statement m f b c from (If t arms otherwise) h =
       within_joined (cases_of_arms arms) (cases_behind otherwise) (labels_of_arms arms) (labels_behind otherwise) (within-arms m f b c from arms h.1) (within-else m f b c from otherwise h.2)
@@ -55,10 +53,7 @@ mutual
       (cases_there cases (labels_in body) (recursion_from_All (λ (k : CaseValue). Contains (labels_in body) k.label) cases h.1.labels))
       (within_both (option_to_list default) (cases_in body) (labels_in body) (default_there default (labels_in body) h.1.default_label) (within-statement m f true c from body h.2))
   within-statement m f b c from (Label t labels body) h = within_right (cases_in body) labels (labels_in body) (within-statement m f b c from body h.1)
-  within-statement m f b c from (Goto t n) h = tt
-  within-statement m f b c from (Break t) h = tt
-  within-statement m f b c from (Continue t) h = tt
-  within-statement m f b c from (Return t e) h = tt
+  within-statement m f b c from _ h = tt
 
   within-statements : (m : ModuleValue) (f : FunctionValue) (b c : Bool) (from : ℕ) (all : Statements) → AreStatements m f b c from all → Within (cases_among all) (labels_among all)
   within-statements m f b c from NoStatement h = tt

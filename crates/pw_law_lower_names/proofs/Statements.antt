@@ -5,7 +5,7 @@ use Rattle.std.specs.List.{AllByRecursion}
 use Rattle.std.proofs.lemmas.List.Elements.{All-head, All-tail}
 use Rattle.pw_value.specs.declared.value.Kind.{Kind}
 use Rattle.pw_types.specs.TypeTrees.{CType}
-use Rattle.pw_types.specs.TypedTrees.{Expression, Initialiser, Value, Bytes, Hidden, CaseValue, Statement, Empty, Evaluate, Block, If, While, Do, For, Switch, Label, Goto, Break, Continue, Return, Arms, NoArm, Arm, Otherwise, NoElse, Else, Statements, NoStatement, OneStatement, FunctionValue, ModuleValue}
+use Rattle.pw_types.specs.TypedTrees.{Expression, Initialiser, Value, Bytes, Hidden, CaseValue, Statement, Evaluate, Block, If, While, Do, For, Switch, Label, Return, Arms, NoArm, Arm, Otherwise, NoElse, Else, Statements, NoStatement, OneStatement, FunctionValue, ModuleValue}
 use Rattle.pw_types.specs.TypedModules.{Initialises, Returns, IsStatement, AreStatements, AreArms, IsElse}
 use Rattle.pw_types.specs.WellTyped.{IsTyped, IsTypedOrAbsent, IsConditionOrAbsent}
 use Rattle.pw_flow.specs.declared.flow.Op.TheVariants as op
@@ -178,7 +178,6 @@ module _ (objects functions : List (List ℕ)) (m : ModuleValue) (f : FunctionVa
     unfolding lower_statement IsStatement
 
     pub statement_names : (s : Statement) (breaks continues : Bool) (from : ℕ) → IsStatement m f breaks continues from s → (ways : Ways) (c : Code) → Have (lower_statement frame ways s c) → InStatement Names Initialise s
-    statement_names (Empty t) breaks continues from w ways c g = tt
     statement_names (Evaluate t e) breaks continues from w ways c g = told e w c g
     statement_names (Block t first count initialisers items) breaks continues from w ways c g =
         let d = initialised_all frame.home frame.locals initialisers c in
@@ -196,10 +195,8 @@ module _ (objects functions : List (List ℕ)) (m : ModuleValue) (f : FunctionVa
         switching_names (InStatement Names Initialise body) e w.0 cases default (λ out d. lower_statement frame (record ways { out = out }) body d)
         (λ out d k. (statement_names body _ continues from w.2 (record ways { out = out }) d k, earlier (record ways { out = out }) body d k)) c g
     statement_names (Label t own body) breaks continues from w ways c g = statement_names body breaks continues from w.1 ways (begun own c) g
-    statement_names (Goto t l) breaks continues from w ways c g = tt
-    statement_names (Break t) breaks continues from w ways c g = tt
-    statement_names (Continue t) breaks continues from w ways c g = tt
     statement_names (Return t e) breaks continues from w ways c g = returning_names e w c g
+    statement_names _ breaks continues from w ways c g = tt
 
     arms_name : (arms : Arms) (breaks continues : Bool) (from : ℕ) → AreArms m f breaks continues from arms → (o : Otherwise) (ways : Ways) (last : Option (Code → Code)) → LastTells last (InOtherwise Names Initialise o) → (c : Code)
         → Have (lower_arms frame ways arms last c) → InArms Names Initialise arms × InOtherwise Names Initialise o × Have c

@@ -47,7 +47,6 @@ module _ (N M : Expression → Type 0) (I J : Initialiser → Type 0) (give : (e
 
   mutual
     pub statement_to : (s : Statement) → InStatement N I s → InStatement M J s
-    statement_to (T.Empty t) h = tt
     statement_to (T.Evaluate t e) h = give e h
     statement_to (T.Block t first count initialisers items) h = (initialisers_to initialisers h.0, statements_to items h.1)
     statement_to (T.If t arms otherwise) h = (arms_to arms h.0, else_to otherwise h.1)
@@ -56,10 +55,8 @@ module _ (N M : Expression → Type 0) (I J : Initialiser → Type 0) (give : (e
     statement_to (T.For t a b c body) h = (any_to a h.0, any_to b h.1, any_to c h.2, statement_to body h.3)
     statement_to (T.Switch t e cases default body) h = (give e h.0, statement_to body h.1)
     statement_to (T.Label t labels body) h = statement_to body h
-    statement_to (T.Goto t n) h = tt
-    statement_to (T.Break t) h = tt
-    statement_to (T.Continue t) h = tt
     statement_to (T.Return t e) h = any_to e h
+    statement_to _ h = tt
 
     statements_to : (all : Statements) → InStatements N I all → InStatements M J all
     statements_to NoStatement h = tt

@@ -179,7 +179,7 @@ deeds_too p base objects row ts (op.Ext k t a) d h c e =
     let f = folds p base objects ts t x (op.Ext k t a) r.0 d r.2 told refl e in
     record { calls = f.calls; does = f.does; after = defined p base objects row ts t x r.0 d h r.2 told }
 deeds_too p base objects row ts o d h c e =
-    record { calls = c; does = e; after = plain row ts (op_defines o) d h (deeds_define p base objects o (value ts) d c e) }
+    record { calls = c; does = e; after = plain row ts (op_defines o) d h (deeds_define p base objects o (value ts) d e) }
 
 calls_same : (p : Program) (base : ℕ) (row : List Flat) (ts : List Value) (o : Op) → Holds holds_word row ts → op_calls o ≡ true → command p base (constant_op row o) (value ts) ≡ command p base o (value ts)
 calls_same p base row ts (op.Call t f args) h c = refl

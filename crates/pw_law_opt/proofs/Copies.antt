@@ -17,9 +17,10 @@ use Rattle.pw_opt_rules.specs.declared.flat.Flat.TheVariants.{Bottom, One, Many}
 use Rattle.pw_opt_rules.specs.Flat.{is_one}
 use Rattle.pw_opt_rules.specs.Rows.{known}
 use Rattle.pw_opt_rules.specs.Copies.{copied, without_copies, with_copy, copy_transfer, one_or, original, with_operands, with_end_operand, copies}
+use Rattle.pw_law_operations.proofs.Asking.{commands_rest_on_uses}
 use Rattle.pw_law_opt.specs.Deeds.{Deed, Gets, deed, value, got, with_result, Way, way}
 use Rattle.pw_law_opt.proofs.Lists.{value_there, value_elsewhere}
-use Rattle.pw_law_opt.proofs.Commands.{commands_rest_on_uses, operands_ask, operands_call, ways_rest_on_uses, operand_ways, Defines, gets, changes, deeds_define}
+use Rattle.pw_law_opt.proofs.Commands.{operands_ask, operands_call, ways_rest_on_uses, operand_ways, Defines, gets, changes, deeds_define}
 use Rattle.pw_law_opt.proofs.Rewritings.{OneIs, Holds, DoesToo, IsTruthful}
 
 -- a temporary has another one where both hold the same
@@ -121,7 +122,7 @@ unfolding command
 after p base objects row ts (op.Copy t a) d h c e =
     subst (λ (d : Deed). Holds holds_same (copy_transfer row (op.Copy t a)) (got d ts)) (same_Some (Gets t (value ts a)) d e)
     (set_holds row ts t (copied (op.Copy t a)) (value ts a) h (copy_told ts t a))
-after p base objects row ts o d h c e = plain row ts (op_defines o) d h (deeds_define p base objects o (value ts) d c e)
+after p base objects row ts o d h c e = plain row ts (op_defines o) d h (deeds_define p base objects o (value ts) d e)
 
 deeds_too : (p : Program) (base : ℕ) (objects : List Object) (row : List Flat) (ts : List Value) (o : Op) (d : Deed) → Holds holds_same row ts → op_calls o ≡ false
     → deed p objects (command p base o (value ts)) ≡ Some d → DoesToo copies holds_same p base objects row ts o d

@@ -19,11 +19,12 @@ use Rattle.pw_run_languages.specs.Programs.{Program}
 use Rattle.pw_run_languages.specs.Commands.{command}
 use Rattle.pw_run_languages.specs.FlowRun.{start_temps}
 use Rattle.pw_opt_rules.specs.Dead.{only_defines, is_needed, is_dead, live_ops, live_block}
+use Rattle.pw_law_operations.proofs.Asking.{commands_rest_on_uses}
 use Rattle.pw_law_opt.specs.Deeds.{Deed, Gets, Changes, deed, value, got, with_result, Way, To, way}
 use Rattle.pw_law_opt.specs.Sides.{Left, left}
 use Rattle.pw_law_opt.specs.Passes.{Pass, Meets, taken_out, done_too, CallsToo, EntersToo, IsSound}
 use Rattle.pw_law_opt.proofs.Lists.{value_elsewhere, value_in_both}
-use Rattle.pw_law_opt.proofs.Commands.{commands_rest_on_uses, ways_rest_on_uses, Defines, gets, changes, deeds_define}
+use Rattle.pw_law_opt.proofs.Commands.{ways_rest_on_uses, Defines, gets, changes, deeds_define}
 use Rattle.pw_law_opt.proofs.Rewritings.{way_leads}
 
 -- the tests of liveness say what liveness by paths is
@@ -163,7 +164,7 @@ module _ (exact : LivenessIsExact) where
   ops_meet : (p : Program) (base : ℕ) (objects : List Object) (f : FlowFn) (bs : List Block) (o : Op) (ops : List Op) (end : End) (ts : List Value) (y : Left) (d : Deed)
       → DeadAt f bs (left (o ∷ ops) end ts) y → op_calls o ≡ false → deed p objects (command p base o (value ts)) ≡ Some d → Meets p base objects (DeadAt f bs) ops end ts d y
   ops_meet p base objects f bs o ops end ts y d a calls does = elim (cases_Bool (is_dead a.of_module (outline_of f) a.block o ops)) [
-    | inl dead ↦ taken p base objects f bs o ops end ts y d a dead (deeds_define p base objects o (value ts) d calls does)
+    | inl dead ↦ taken p base objects f bs o ops end ts y d a dead (deeds_define p base objects o (value ts) d does)
     | inr alive ↦ done_too o (live_ops a.of_module (outline_of f) a.block ops) (a.ops ∙ kept_op a.of_module f a.block o ops alive) calls
         (ap (deed p objects) (reads_same p base f o ops end ts y.temps a.agree) ∙ does)
         (record {
@@ -174,7 +175,7 @@ module _ (exact : LivenessIsExact) where
           ops = refl;
           end = a.end;
           same = got_long d ts y.temps a.same;
-          agree = agree_done f o ops end ts y.temps d a.same (deeds_define p base objects o (value ts) d calls does) a.agree;
+          agree = agree_done f o ops end ts y.temps d a.same (deeds_define p base objects o (value ts) d does) a.agree;
         })
   ]
 

@@ -10,12 +10,13 @@ use Rattle.pw_flow.specs.declared.flow.Op.TheVariants as op
 use Rattle.pw_flow.specs.declared.flow.End.{End}
 use Rattle.pw_flow.specs.declared.flow.End.TheVariants.{Jump, Branch, Return}
 use Rattle.pw_flow.specs.Uses.{op_calls, op_defines}
-use Rattle.pw_run_languages.specs.Values.{unary, extension, binary, is_somewhere}
+use Rattle.pw_run_languages.specs.Values.{binary, is_somewhere}
 use Rattle.pw_run_languages.specs.Memory.{look, poke, copy}
 use Rattle.pw_run_languages.specs.Programs.{Program, function_at, shape_of}
-use Rattle.pw_run_languages.specs.Commands.{Command, Give, Combine, Look, Poke, Copied, GetGlobal, PutGlobal, Enter, Fail, give, enter_as, enter_at, enter_value, command}
+use Rattle.pw_run_languages.specs.Commands.{Command, Give, Combine, Look, Poke, Copied, GetGlobal, PutGlobal, Enter, Fail, enter_as, enter_at, enter_value, command}
 use Rattle.pw_run_languages.specs.FlowRun.{Machine, Astray, gives, changes, get_global, put_global, jumps, branches, returns, ends, obeys, value_in}
-use Rattle.pw_law_opt.specs.Deeds.{Gets, Changes, deed, done, StaysInside, To, branch_way, returned, way, back, went}
+use Rattle.pw_law_operations.specs.Laws.{StaysInside}
+use Rattle.pw_law_opt.specs.Deeds.{Gets, Changes, deed, done, To, branch_way, returned, way, back, went}
 
 -- ---- commands
 
@@ -38,28 +39,6 @@ obeys_done p (PutGlobal g k v) m s = changes_done (put_global p g k v m.objects)
 obeys_done p (Enter t f args) m s = absurd s
 obeys_done p Fail m s = refl
 
-give_stays : (t : ℕ) (v : Option Value) → StaysInside (give t v)
-give_stays t None = tt
-give_stays t (Some v) = tt
-
-pub stays_inside : (p : Program) (base : ℕ) (o : Op) (v : ℕ → Value) → op_calls o ≡ false → StaysInside (command p base o v)
-unfolding command
-stays_inside p base (op.Const t n) v e = tt
-stays_inside p base (op.Copy t a) v e = tt
-stays_inside p base (op.Un k t a) v e = give_stays t (unary k (v a))
-stays_inside p base (op.Bin k t a b) v e = tt
-stays_inside p base (op.Ext k t a) v e = give_stays t (extension k (v a))
-stays_inside p base (op.AddrGlobal t g n) v e = tt
-stays_inside p base (op.AddrSlot t s) v e = tt
-stays_inside p base (op.AddrFn t f) v e = tt
-stays_inside p base (op.LoadG t g k) v e = tt
-stays_inside p base (op.StoreG g a k) v e = tt
-stays_inside p base (op.Load k t a) v e = tt
-stays_inside p base (op.Store k a b) v e = tt
-stays_inside p base (op.Move a b size unit) v e = tt
-stays_inside p base (op.Call t f args) v e = absurd cc
-stays_inside p base (op.CallInd t a shape args) v e = absurd cc
-
 -- ---- calls
 
 -- what a call asks for: a function, whose result goes to this temporary; or it fails
@@ -81,11 +60,7 @@ asks_at p t shape args (Some f) = asks_as t shape args (Some f) (shape_of p f)
 
 asks_value : (p : Program) (t : Option ℕ) (v : Value) (shape : List ℕ) (args : List Value) → Asks t (enter_value p t v shape args)
 asks_value p t (At (P.Function n)) shape args = asks_at p t shape args (function_at p n)
-asks_value p t (At (P.Object o i)) shape args = fails refl
-asks_value p t (Num n) shape args = fails refl
-asks_value p t Undefined shape args = fails refl
-asks_value p t Null shape args = fails refl
-asks_value p t (Piece q i) shape args = fails refl
+asks_value p t _ shape args = fails refl
 
 pub calls_ask : (p : Program) (base : ℕ) (o : Op) (v : ℕ → Value) → op_calls o ≡ true → Asks (op_defines o) (command p base o v)
 unfolding command

@@ -26,6 +26,7 @@ use Rattle.pw_opt_rules.specs.Constants.{constant, const_or, constant_op, jump_o
 use Rattle.pw_opt_rules.specs.Copies.{one_or, original, with_operands, with_end_operand, copies}
 use Rattle.pw_opt_rules.specs.Dead.{is_dead, live_ops, live_block, without_dead}
 use Rattle.pw_opt_rules.specs.Optimised.{IsOptimised, stays, steps, AreOptimised, none, also}
+use Rattle.pw_opt_rules.proofs.Folding.{folded_holds}
 use Rattle.pw_law_opt.specs.Laws.{OptimisationKeepsLawful}
 use Rattle.pw_opt_order.specs.Rises.{Rises}
 use Rattle.pw_opt_order.specs.Order.{constants_rise, copies_rise}
@@ -135,11 +136,6 @@ const_lawful temps slots t Bottom o lt fine lawful = lawful
 const_lawful temps slots t (One n) o lt fine lawful = (lt, ltb-true n (2 ^ 32) fine)
 const_lawful temps slots t Many o lt fine lawful = lawful
 
-const_ordinary : (t : ℕ) (x : Flat) (o : Op) → Ordinary o → Ordinary (const_or t x o)
-const_ordinary t Bottom o all = all
-const_ordinary t (One n) o all = tt
-const_ordinary t Many o all = all
-
 module _ (words : ResultsAreWords) (temps slots : ℕ) where
   constant_op_lawful : (row : List Flat) (o : Op) → AreFine is_word row → IsOp temps slots o → IsOp temps slots (constant_op row o)
   constant_op_lawful row (op.Copy t a) fine l = const_lawful temps slots t (constant row (op.Copy t a)) (op.Copy t a) l.0 (constant_fine words temps slots row (op.Copy t a) l fine) l
@@ -149,11 +145,7 @@ module _ (words : ResultsAreWords) (temps slots : ℕ) where
   constant_op_lawful row o fine l = l
 
   constant_op_ordinary : (row : List Flat) (o : Op) → Ordinary o → Ordinary (constant_op row o)
-  constant_op_ordinary row (op.Copy t a) all = const_ordinary t (constant row (op.Copy t a)) (op.Copy t a) all
-  constant_op_ordinary row (op.Un k t a) all = const_ordinary t (constant row (op.Un k t a)) (op.Un k t a) all
-  constant_op_ordinary row (op.Bin k t a b) all = const_ordinary t (constant row (op.Bin k t a b)) (op.Bin k t a b) all
-  constant_op_ordinary row (op.Ext k t a) all = const_ordinary t (constant row (op.Ext k t a)) (op.Ext k t a) all
-  constant_op_ordinary row o all = all
+  constant_op_ordinary row o all = folded_holds Ordinary row o all (λ t n defines calls. tt)
 
   jump_lawful : (x : Flat) (a b c blocks : ℕ) → IsEnd temps blocks (Branch a b c) → IsEnd temps blocks (jump_or x a b c)
   jump_lawful Bottom a b c blocks l = l
@@ -184,21 +176,17 @@ arguments_lawful : (temps : ℕ) (h : ℕ → ℕ) (args : List ℕ) → ((a : �
 arguments_lawful temps h args keeps l = record { few = subst (λ n. n ≤ parameter_limit) (sym (length-map args h)) l.few; below = args_lawful temps h args keeps l.below }
 
 operands_lawful : (temps slots : ℕ) (h : ℕ → ℕ) (o : Op) → ((a : ℕ) → a < temps → h a < temps) → IsOp temps slots o → IsOp temps slots (with_operands h o)
-operands_lawful temps slots h (op.Const t n) keeps l = l
 operands_lawful temps slots h (op.Copy t a) keeps l = (l.0, keeps a l.1)
 operands_lawful temps slots h (op.Un k t a) keeps l = (l.0, keeps a l.1)
 operands_lawful temps slots h (op.Bin k t a b) keeps l = (l.0, keeps a l.1, keeps b l.2)
 operands_lawful temps slots h (op.Ext k t a) keeps l = (l.0, keeps a l.1)
-operands_lawful temps slots h (op.AddrGlobal t g n) keeps l = l
-operands_lawful temps slots h (op.AddrSlot t s) keeps l = l
-operands_lawful temps slots h (op.AddrFn t f) keeps l = l
-operands_lawful temps slots h (op.LoadG t g k) keeps l = l
 operands_lawful temps slots h (op.StoreG g a k) keeps l = keeps a l
 operands_lawful temps slots h (op.Load k t a) keeps l = (l.0, keeps a l.1)
 operands_lawful temps slots h (op.Store k a b) keeps l = (keeps a l.0, keeps b l.1)
 operands_lawful temps slots h (op.Move a b size unit) keeps l = (keeps a l.0, keeps b l.1, l.2)
 operands_lawful temps slots h (op.Call t f args) keeps l = (l.0, arguments_lawful temps h args keeps l.1)
 operands_lawful temps slots h (op.CallInd t a shape args) keeps l = (l.0, keeps a l.1, arguments_lawful temps h args keeps l.2)
+operands_lawful temps slots h _ keeps l = l
 
 end_operand_lawful : (temps blocks : ℕ) (h : ℕ → ℕ) (e : End) → ((a : ℕ) → a < temps → h a < temps) → IsEnd temps blocks e → IsEnd temps blocks (with_end_operand h e)
 end_operand_lawful temps blocks h (Jump b) keeps l = l

@@ -1,6 +1,6 @@
 -- Elements of lists, and what temporaries hold when one of them gets a value.
 use Rattle.std.specs.Prelude.{ℕ, suc, ◌≡◌, ◌≢◌, ◌<◌, List, [], ◌∷◌, length, map, slice_set, Contains}
-use Rattle.std.proofs.Common.{refl, sym, ap, ap₂, ◌∙◌, arith, inl, inr}
+use Rattle.std.proofs.Common.{refl, sym, ap, ◌∙◌, arith, inl, inr}
 use Rattle.std.proofs.lemmas.Bool.{cases_lt}
 use Rattle.std.proofs.lemmas.List.{get_or-set_same, get_or-set_other, get_or_past, length-set}
 use Rattle.pw_value.specs.declared.value.Value.{Value}
@@ -12,11 +12,6 @@ first_there x xs = (0, omega arith, refl)
 
 pub later_there : {X : Type 0} (y x : X) (xs : List X) → Contains xs x → Contains (y ∷ xs) x
 later_there y x xs c = (suc c.0, omega (arith, c.1), c.2)
-
--- two functions that are equal at each item give equal lists
-pub map_same : {X : Type 0} (a b : ℕ → X) (ts : List ℕ) → ((t : ℕ) → Contains ts t → a t ≡ b t) → map a ts ≡ map b ts
-map_same a b [] same = refl
-map_same a b (t ∷ ts) same = ap₂ (λ v vs. v ∷ vs) (same t (first_there t ts)) (map_same a b ts (λ u c. same u (later_there t u ts c)))
 
 pub map_twice : {X : Type 0} (v : ℕ → X) (h : ℕ → ℕ) (ts : List ℕ) → map v (map h ts) ≡ map (λ t. v (h t)) ts
 map_twice v h [] = refl

@@ -10,12 +10,12 @@ use Rattle.pw_flow.specs.declared.flow.FlowFn.{FlowFn}
 use Rattle.pw_flow.specs.declared.flow.FlowModule.{FlowModule}
 use Rattle.pw_flow.specs.Outline.{Outline, outline_of}
 use Rattle.pw_opt_rules.specs.declared.flat.Flat.{Flat}
-use Rattle.pw_opt_rules.specs.declared.flat.Flat.TheVariants.{Bottom, One, Many}
 use Rattle.pw_opt_rules.specs.Rewriting.{Rewriting, rewritten_ops, rewritten_blocks, IsRewritten}
-use Rattle.pw_opt_rules.specs.Constants.{constant, const_or, constant_op, constants}
+use Rattle.pw_opt_rules.specs.Constants.{constant_op, constants}
 use Rattle.pw_opt_rules.specs.Copies.{original, with_operands, copies}
 use Rattle.pw_opt_rules.specs.Dead.{is_dead, live_ops, live_block}
 use Rattle.pw_opt_rules.specs.Optimised.{IsOptimised, stays, steps, AreOptimised, none, also}
+use Rattle.pw_opt_rules.proofs.Folding.{folded_holds}
 
 pub record SaysNothingOfOperands (R : Op → Type 0) : Type 0 where
   pub constants : (t n : ℕ) → R (op.Const t n)
@@ -44,17 +44,8 @@ module _ (R : Op → Type 0) (k : SaysNothingOfOperands R) where
     rewritten_hold : (f g : FlowFn) → IsRewritten w f g → AllBlocks R f → AllBlocks R g
     rewritten_hold f g r all = subst (AllBlocks R) (sym r.is) (blocks_hold r.rows f.blocks all)
 
-  const_holds : (t : ℕ) (x : Flat) (o : Op) → R o → R (const_or t x o)
-  const_holds t Bottom o h = h
-  const_holds t (One n) o h = k.constants t n
-  const_holds t Many o h = h
-
   constant_holds : (row : List Flat) (o : Op) → R o → R (constant_op row o)
-  constant_holds row (op.Copy t a) h = const_holds t (constant row (op.Copy t a)) (op.Copy t a) h
-  constant_holds row (op.Un c t a) h = const_holds t (constant row (op.Un c t a)) (op.Un c t a) h
-  constant_holds row (op.Bin c t a b) h = const_holds t (constant row (op.Bin c t a b)) (op.Bin c t a b) h
-  constant_holds row (op.Ext c t a) h = const_holds t (constant row (op.Ext c t a)) (op.Ext c t a) h
-  constant_holds row o h = h
+  constant_holds row o h = folded_holds R row o h (λ t n defines calls. k.constants t n)
 
   -- ---- dead operations
 

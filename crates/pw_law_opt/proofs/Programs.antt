@@ -5,7 +5,7 @@ use denote.Enum.Bare.{sameb}
 use Rattle.pw_value.specs.contracts.value.Kind.{the_type as the_kinds}
 use Rattle.pw_value.specs.declared.value.Kind.{Kind}
 use Rattle.pw_value.specs.declared.value.Value.{Value}
-use Rattle.pw_value.specs.declared.value.Value.TheVariants.{Undefined, Num, Null, At, Piece}
+use Rattle.pw_value.specs.declared.value.Value.TheVariants.{At}
 use Rattle.pw_value.specs.declared.value.Byte.{Byte}
 use Rattle.pw_value.specs.declared.value.Byte.TheVariants as B
 use Rattle.pw_value.specs.declared.value.Pointer.{Pointer}
@@ -131,29 +131,14 @@ module _ (w : Pass) (p : Program) (ms : List FlowModule) (fine : Follows w p ms)
 
   enters_value : (t : Option ℕ) (v : Value) (shape : List ℕ) (args : List Value) → enter_value q t v shape args ≡ enter_value p t v shape args
   enters_value t (At (P.Function n)) shape args = ap (enter_at q t shape args) (names_at n) ∙ enters_at t shape args (function_at p n)
-  enters_value t (At (P.Object o i)) shape args = refl
-  enters_value t (Num n) shape args = refl
-  enters_value t Undefined shape args = refl
-  enters_value t Null shape args = refl
-  enters_value t (Piece r i) shape args = refl
+  enters_value t _ shape args = refl
 
   pub same_commands : (base : ℕ) (o : Op) (v : ℕ → Value) → command q base o v ≡ command p base o v
   unfolding command
-  same_commands base (op.Const t n) v = refl
-  same_commands base (op.Copy t a) v = refl
-  same_commands base (op.Un k t a) v = refl
-  same_commands base (op.Bin k t a b) v = refl
-  same_commands base (op.Ext k t a) v = refl
   same_commands base (op.AddrGlobal t g n) v = ap (λ (r : Pointer). Give t (At r)) (pointers g n)
-  same_commands base (op.AddrSlot t s) v = refl
   same_commands base (op.AddrFn t f) v = ap (λ (n : ℕ). Give t (At (P.Function n))) (numbers f)
-  same_commands base (op.LoadG t g k) v = refl
-  same_commands base (op.StoreG g a k) v = refl
-  same_commands base (op.Load k t a) v = refl
-  same_commands base (op.Store k a b) v = refl
-  same_commands base (op.Move a b size unit) v = refl
-  same_commands base (op.Call t f args) v = refl
   same_commands base (op.CallInd t a shape args) v = enters_value t (v a) shape (map v args)
+  same_commands base _ v = refl
 
   gets_same : (g : List ℕ) (k : Kind) (objects : List Object) → get_global q g k objects ≡ get_global p g k objects
   gets_same g k objects = ap (λ globals. got_from globals g k objects) fine.globals

@@ -10,15 +10,15 @@ use Rattle.pw_flow.specs.declared.flow.Block.{Block}
 use Rattle.pw_flow.specs.declared.flow.FlowFn.{FlowFn}
 use Rattle.pw_flow.specs.declared.flow.FlowModule.{FlowModule}
 use Rattle.pw_flow.specs.FrameRooms.{argument_count, most_arguments, frame_room, flow_room}
-use Rattle.pw_flow.specs.Uses.{op_defines}
+use Rattle.pw_flow.specs.Uses.{op_defines, op_calls}
 use Rattle.pw_flow.specs.Outline.{Outline, outline_of}
 use Rattle.pw_opt_rules.specs.declared.flat.Flat.{Flat}
-use Rattle.pw_opt_rules.specs.declared.flat.Flat.TheVariants.{Bottom, One, Many}
 use Rattle.pw_opt_rules.specs.Rewriting.{Rewriting, rewritten_ops, rewritten_block, rewritten_blocks, IsRewritten}
-use Rattle.pw_opt_rules.specs.Constants.{const_or, constant, constant_op, constants}
+use Rattle.pw_opt_rules.specs.Constants.{constant_op, constants}
 use Rattle.pw_opt_rules.specs.Copies.{original, with_operands, copies}
 use Rattle.pw_opt_rules.specs.Dead.{only_defines, is_needed, is_dead, live_ops, live_block, without_dead}
 use Rattle.pw_opt_rules.specs.Optimised.{stays, steps}
+use Rattle.pw_opt_rules.proofs.Folding.{folded_holds}
 use Rattle.pw_law_opt.specs.Laws.{OptimisationKeepsRooms}
 
 abbrev ops_of : List Block → List Op
@@ -50,17 +50,13 @@ module _ (w : Rewriting) (counts : (row : List Flat) (o : Op) → argument_count
   rewritten_room : (f g : FlowFn) → IsRewritten w f g → flow_room g ≡ flow_room f
   rewritten_room f g r = ap flow_room r.is ∙ ap (λ (n : ℕ). frame_room f.temps n f.slots) (blocks_most r.rows f.blocks)
 
-const_count : (t : ℕ) (x : Flat) (o : Op) → argument_count o ≡ 0 → argument_count (const_or t x o) ≡ argument_count o
-const_count t Bottom o e = refl
-const_count t (One n) o e = sym e
-const_count t Many o e = refl
+none_called : (o : Op) → op_calls o ≡ false → argument_count o ≡ 0
+none_called (op.Call t f args) e = absurd cc
+none_called (op.CallInd t a shape args) e = absurd cc
+none_called o e = refl
 
 constant_counts : (row : List Flat) (o : Op) → argument_count (constant_op row o) ≡ argument_count o
-constant_counts row (op.Copy t a) = const_count t (constant row (op.Copy t a)) (op.Copy t a) refl
-constant_counts row (op.Un k t a) = const_count t (constant row (op.Un k t a)) (op.Un k t a) refl
-constant_counts row (op.Bin k t a b) = const_count t (constant row (op.Bin k t a b)) (op.Bin k t a b) refl
-constant_counts row (op.Ext k t a) = const_count t (constant row (op.Ext k t a)) (op.Ext k t a) refl
-constant_counts row o = refl
+constant_counts row o = folded_holds (λ (x : Op). argument_count x ≡ argument_count o) row o refl (λ t n defines calls. sym (none_called o calls))
 
 operand_counts : (h : ℕ → ℕ) (o : Op) → argument_count (with_operands h o) ≡ argument_count o
 operand_counts h (op.Call t f args) = length-map args h

@@ -10,10 +10,11 @@ use Rattle.pw_flow.specs.Uses.{op_calls, op_defines}
 use Rattle.pw_run_languages.specs.Programs.{Program}
 use Rattle.pw_run_languages.specs.Commands.{Command, Enter, command}
 use Rattle.pw_run_languages.specs.FlowRun.{Machine, Step, On, Astray, Returned, counted, ends, obeys, value_in, step}
+use Rattle.pw_law_operations.proofs.Asking.{stays_inside}
 use Rattle.pw_law_opt.specs.Deeds.{Deed, Gets, Changes, deed, done, value, got, Way, To, Back, way, left_objects, back, went}
 use Rattle.pw_law_opt.specs.Sides.{left, Active, Twin, first_frame, second_frame, first_side, second_side, standing, with_modules}
 use Rattle.pw_law_opt.specs.Passes.{Pass, Meets, taken_out, done_too, CallsToo, EntersToo, IsSound, Follows, Runs, AllWait, IsAlike, IsReady, Both, goes, strays, Steps, together, alone}
-use Rattle.pw_law_opt.proofs.Deeds.{obeys_done, stays_inside, Asks, enters, fails, calls_ask, ends_go}
+use Rattle.pw_law_opt.proofs.Deeds.{obeys_done, Asks, enters, fails, calls_ask, ends_go}
 use Rattle.pw_law_opt.proofs.Programs.{same_commands, same_deeds}
 use Rattle.pw_law_opt.proofs.Calling.{gets_both, calls_both}
 

@@ -34,10 +34,6 @@ done None m = Astray
 done (Some (Gets t v)) m = On (with_temp t v m)
 done (Some (Changes objects)) m = On (record m { objects = objects })
 
-abbrev pub StaysInside : Command → Type 0
-StaysInside (Enter t f args) = ⊥
-StaysInside _ = Unit {0}
-
 -- ---- what temporaries hold
 
 abbrev pub value : List Value → ℕ → Value

@@ -7,14 +7,14 @@ use Rattle.pw_value.specs.declared.value.Value.TheVariants as V
 use Rattle.pw_types.specs.TypeTrees.{CType, QType}
 use Rattle.pw_types.specs.declared.tree.BinaryOperator.{BinaryOperator}
 use Rattle.pw_types.specs.declared.tree.StepOperator.{StepOperator}
-use Rattle.pw_types.specs.TypedTrees.{Symbol, Hidden, Expression, Node, Number, Str, Local, Global, Function, Unary, Binary, Logic, Cond, Comma, Assign, Compound, Step, Cast, Decay, Member, Deref, Address, Call, CallValue, Expressions, NoExpression, OneExpression, Initialiser, Value as ByValue, Bytes as ByBytes, Statement, Empty, Evaluate, Block, If, While, Do, For, Switch, Label, Goto, Break, Continue, Return, Arms, NoArm, Arm, Otherwise, NoElse, Else, Statements, NoStatement, OneStatement}
-use Rattle.pw_types.specs.Labels.{labels_among, labels_of_arms, labels_behind}
+use Rattle.pw_types.specs.TypedTrees.{Symbol, Hidden, Expression, Node, Number, Str, Local, Global, Function, Unary, Binary, Logic, Cond, Comma, Assign, Compound, Step, Cast, Decay, Member, Deref, Address, Call, CallValue, Expressions, NoExpression, OneExpression, Initialiser, Value as ByValue, Bytes as ByBytes, Statement, Evaluate, Block, If, While, Do, For, Switch, Label, Return, Arms, NoArm, Arm, Otherwise, NoElse, Else, Statements, NoStatement, OneStatement}
+use Rattle.pw_types.specs.Labels.{labels_among, labels_behind}
 use Rattle.pw_cmean.specs.Worlds.{World, Callable, Body, Defined, Library, LibraryFunction, GetChar, PutChar, ExitRun, depth}
 use Rattle.pw_cmean.specs.Acts.{Act, Site, Bound, StackFull, give, stop, branch, ◌>>=◌, ◌>>◌}
 use Rattle.pw_cmean.specs.Evaluation.{Env, Calls, local_place, symbol_place, used, value_at, old_value, update, step, bounded_call, take_room, library_call, call_body, call, call_value, answer_of, place_of, values_of}
-use Rattle.pw_cmean.specs.Execution.{Entry, Front, At_label, Flow, Normal, Breaks, Continues, Returns, Goes, caught, taking_up, go_forward, after_body, turn, loop, meet_loop, always, value_of, condition, for_condition, drop_value, switch_to, after_switch, with_number, with_locals, set_local, initialise, initialise_all, behind_labels, meaning, items, arms, behind_arms}
-use Rattle.pw_cmean.specs.SourceRun.{outermost, set_parameters, result_of, run_body, callee, calls, finish, run_main, start_state}
-use Rattle.pw_cmean.proofs.ActLaws.{bind-r, branch-r, wrong-r, need-r, judge-r, within-r, put-r, truth-r, unary-r, advance-r, binary-r, used-r, value_at-r, cast-r, old_value-r, update-r, step-r}
+use Rattle.pw_cmean.specs.Execution.{Entry, Front, At_label, Flow, Normal, taking_up, turn, loop, meet_loop, always, value_of, condition, for_condition, drop_value, with_number, with_locals, set_local, initialise, initialise_all, behind_labels, meaning, items, arms, behind_arms}
+use Rattle.pw_cmean.specs.SourceRun.{outermost, set_parameters, run_body, callee, calls, run_main, start_state}
+use Rattle.pw_cmean.proofs.ActLaws.{bind-r, branch-r, wrong-r, need-r, judge-r, within-r, put-r, truth-r, unary-r, advance-r, binary-r, value_at-r, cast-r, old_value-r, update-r, step-r}
 use Rattle.pw_cmean.proofs.TreeLaws.{operand-r, go_forward-r, caught-r, after_body-r, switch_to-r, after_switch-r, result_of-r, finish-r}
 use Rattle.pw_law_pause.specs.Moments.{IsOlder, HasRoom, noted_within, with_stack}
 use Rattle.pw_law_pause.proofs.Cutting.{IsFurther, stop-c, cutting, cut-older}
@@ -303,7 +303,6 @@ module _ (w : World) (frame_of : List ℕ → ℕ) (stack : ℕ) (room : (active
     unfolding meaning items arms behind_arms
 
     meaning-f : (s : Statement) (at : Entry) (cs cs' : Calls) (e : Env) → AreFurther cs cs' → IsFurther Flow (meaning s at cs (under w e)) (meaning s at cs' (under roomy e))
-    meaning-f (Empty t) at cs cs' e h = cutting.gives Flow _
     meaning-f (Evaluate t a) at cs cs' e h = bind-f (answer-f a cs cs' e h) λ o. cutting.gives Flow _
     meaning-f (Block t first count initialisers list) at cs cs' e h =
         with_locals-f count first _ _ e λ inner. bind-f (initialise_all-f initialisers at cs cs' inner h) λ u.
@@ -344,11 +343,8 @@ module _ (w : World) (frame_of : List ℕ → ℕ) (stack : ℕ) (room : (active
     meaning-f (Label t labels body) at cs cs' e h =
         taking_up-f labels (λ at' ds. meaning body (behind_labels labels at') ds (under w e)) (λ at' ds. meaning body (behind_labels labels at') ds (under roomy e)) at cs cs' h λ at' ds ds' k.
         meaning-f body _ ds ds' e k
-    meaning-f (Goto t l) at cs cs' e h = cutting.gives Flow _
-    meaning-f (Break t) at cs cs' e h = cutting.gives Flow _
-    meaning-f (Continue t) at cs cs' e h = cutting.gives Flow _
-    meaning-f (Return t None) at cs cs' e h = cutting.gives Flow _
     meaning-f (Return t (Some a)) at cs cs' e h = bind-f (value-f a cs cs' e h) λ x. cutting.gives Flow _
+    meaning-f _ at cs cs' e h = cutting.gives Flow _
 
     items-f : (ss : Statements) (at : Entry) (cs cs' : Calls) (e : Env) → AreFurther cs cs' → IsFurther Flow (items ss at cs (under w e)) (items ss at cs' (under roomy e))
     items-f NoStatement at cs cs' e h = cutting.gives Flow _

@@ -1,5 +1,4 @@
 mod Lists
-mod Commands
 mod Standing
 mod Places
 mod Free

@@ -1,74 +1,26 @@
 -- What an operation asks for is done alike in both runs, where it calls nothing.
-use Rattle.std.specs.Prelude.{ℕ, Bool, true, false, if◌then◌else◌, ◌||◌, Option, Some, None, List, ◌∷◌, map}
+use Rattle.std.specs.Prelude.{ℕ, Bool, true, false, if◌then◌else◌, ◌||◌, Option, Some, None, List, ◌∷◌}
 use Rattle.std.proofs.Common.{refl, subst}
 use Rattle.pw_value.specs.declared.value.Value.{Value}
-use Rattle.pw_value.specs.declared.value.Value.TheVariants.{Undefined, Num, Null, At, Piece}
-use Rattle.pw_value.specs.declared.value.Pointer.TheVariants as P
+use Rattle.pw_value.specs.declared.value.Value.TheVariants.{Undefined}
 use Rattle.pw_value.specs.declared.value.Byte.{Byte}
 use Rattle.pw_value.specs.Objects.{Object}
 use Rattle.pw_db.specs.declared.database.Directives.{Directives}
-use Rattle.pw_flow.specs.declared.flow.Op.TheVariants as op
 use Rattle.pw_alloc.specs.declared.located.Located.{Located}
 use Rattle.pw_run.specs.Runs as run
 use Rattle.pw_run_languages.specs.Traces.{Event, Loaded, Stored, EventAlike, loaded, stored, KeepsRegisters}
 use Rattle.pw_run.specs.Runs.{Same}
-use Rattle.pw_run_languages.specs.Values.{unary, extension, binary}
+use Rattle.pw_run_languages.specs.Values.{binary}
 use Rattle.pw_run_languages.specs.Memory.{look, poke, copy}
-use Rattle.pw_run_languages.specs.Programs.{Program, function_at, shape_of}
+use Rattle.pw_run_languages.specs.Programs.{Program}
 use Rattle.pw_run_languages.specs.Commands as command
-use Rattle.pw_run_languages.specs.Commands.{command}
 use Rattle.pw_run_languages.specs.FlowRun.{get_global, put_global}
-use Rattle.std.specs.Str.{bytes_eq}
 use Rattle.pw_run_languages.specs.PlacedRun.{PlacedProgram, Machine, Step, On, Astray, gives, noted_if, is_eligible, is_reserved, changes, obeys}
 use Rattle.pw_run_languages.specs.Direction.{with_functions}
+use Rattle.pw_law_operations.specs.Laws.{StaysInside, HasResult}
 use Rattle.pw_law_placed.specs.Twins.{Twin, bare_side, placed_side, bare_program}
 use Rattle.pw_law_placed.specs.Alike.{IsReady, Follows, strays}
-use Rattle.pw_law_placed.specs.Laws.{HasResult, StaysInside, CommandsHaveResults}
 use Rattle.pw_law_placed.proofs.Writing.{results_follow}
-
--- ---- where the result goes
-
-given : (t : ℕ) (v : Option Value) → HasResult (Some t) (command.give t v)
-given t (Some v) = refl
-given t None = tt
-
-shaped_by : (t : Option ℕ) (f : List ℕ) (vs : List Value) (b : Bool) → HasResult t (if b then command.Enter t f vs else command.Fail)
-shaped_by t f vs true = refl
-shaped_by t f vs false = tt
-
-of_shape : (t : Option ℕ) (f shape : List ℕ) (vs : List Value) (own : Option (List ℕ)) → HasResult t (command.enter_as t shape vs (Some f) own)
-of_shape t f shape vs (Some own) = shaped_by t f vs (bytes_eq own shape)
-of_shape t f shape vs None = tt
-
-at_number : (p : Program) (t : Option ℕ) (shape : List ℕ) (vs : List Value) (f : Option (List ℕ)) → HasResult t (command.enter_at p t shape vs f)
-at_number p t shape vs (Some f) = of_shape t f shape vs (shape_of p f)
-at_number p t shape vs None = tt
-
-through_value : (p : Program) (t : Option ℕ) (v : Value) (shape : List ℕ) (vs : List Value) → HasResult t (command.enter_value p t v shape vs)
-through_value p t (At (P.Function n)) shape vs = at_number p t shape vs (function_at p n)
-through_value p t (At (P.Object o i)) shape vs = tt
-through_value p t Undefined shape vs = tt
-through_value p t (Num n) shape vs = tt
-through_value p t Null shape vs = tt
-through_value p t (Piece q i) shape vs = tt
-
-pub results_stand : CommandsHaveResults
-unfolding command
-results_stand p base (op.Const t n) a = refl
-results_stand p base (op.Copy t x) a = refl
-results_stand p base (op.Un k t x) a = given t (unary k (a x))
-results_stand p base (op.Bin k t x y) a = refl
-results_stand p base (op.Ext k t x) a = given t (extension k (a x))
-results_stand p base (op.AddrGlobal t g n) a = refl
-results_stand p base (op.AddrSlot t s) a = refl
-results_stand p base (op.AddrFn t f) a = refl
-results_stand p base (op.LoadG t g k) a = refl
-results_stand p base (op.StoreG g x k) a = refl
-results_stand p base (op.Load k t x) a = refl
-results_stand p base (op.Store k x y) a = refl
-results_stand p base (op.Move x y size unit) a = refl
-results_stand p base (op.Call t f args) a = refl
-results_stand p base (op.CallInd t x shape args) a = through_value p t (a x) shape (map a args)
 
 -- ---- what is done
 

@@ -25,14 +25,15 @@ use Rattle.pw_run_languages.specs.Commands as command
 use Rattle.pw_run_languages.specs.LawfulPrograms.{IsProgram, graph_of}
 use Rattle.pw_run_languages.specs.Direction.{with_functions}
 use Rattle.pw_run_languages.specs.PlacedRun.{PlacedProgram, Machine, Step, entered_webs, calls, obeys, ends, does, step}
+use Rattle.pw_law_operations.specs.Laws.{StaysInside, HasResult}
+use Rattle.pw_law_operations.proofs.Asking.{commands_rest_on_uses, results_stand}
 use Rattle.pw_law_direction.specs.Values.{FineValue, AreFine}
 use Rattle.pw_law_direction.specs.DirectedLaws.{OperationsCallByTheGraph}
 use Rattle.pw_law_placed.specs.Twins.{Twin, bare_side, placed_side, bare_program, bare_value, placed_value}
 use Rattle.pw_law_placed.specs.Alike.{name_of, IsCalling, IsAlike, Follows}
-use Rattle.pw_law_placed.specs.Laws.{CallsFollow, IsServed, StaysInside, HasResult, StaysInFunction, ReturnsFollow, StepsFollow}
+use Rattle.pw_law_placed.specs.Laws.{CallsFollow, IsServed, StaysInFunction, ReturnsFollow, StepsFollow}
 use Rattle.pw_law_placed.proofs.Lists.{first_there}
-use Rattle.pw_law_placed.proofs.Commands.{commands_same}
-use Rattle.pw_law_placed.proofs.Operations.{results_stand, commands_follow}
+use Rattle.pw_law_placed.proofs.Operations.{commands_follow}
 use Rattle.pw_law_placed.proofs.Blocks.{popped, ready_behind, uses_agree, blocks_follow}
 use Rattle.pw_law_placed.proofs.Webs.{web_register}
 use Rattle.pw_law_placed.proofs.WebSteps.{reads_follow, writes_follow}
@@ -89,7 +90,7 @@ module _ (graph : OperationsCallByTheGraph) (called : CallsFollow) (p : Program)
       → Follows p d (does (bare_program p d) (Flow o) (bare_side (popped x ops))) (does (with_functions p ls) (Flow o) (placed_side (popped x ops)))
   flow_follows x o ops a fine is =
       subst (λ (c : command.Command). Follows p d (obeys (bare_program p d) (bare_command p x o) (bare_side (popped x ops))) (obeys (with_functions p ls) c (placed_side (popped x ops))))
-      (commands_same p x.frame.base o (bare_value x.frame) (placed_value x.frame x.bank) (λ t used. uses_agree x.frame x.bank (Flow o) ops is a.frame.temps t used))
+      (commands_rest_on_uses p x.frame.base o (bare_value x.frame) (placed_value x.frame x.bank) (λ t used. uses_agree x.frame x.bank (Flow o) ops is a.frame.temps t used))
       (by_command (enters_or_stays (bare_command p x o)))
     where
       Both : command.Command → Type 0

@@ -5,10 +5,8 @@ use Rattle.pw_value.specs.Objects.{Object}
 use Rattle.pw_db.specs.Limits.{last_register}
 use Rattle.pw_db.specs.declared.database.Directives.{Directives}
 use Rattle.pw_db.specs.Database.{IsDatabase}
-use Rattle.pw_flow.specs.declared.flow.Op.{Op}
 use Rattle.pw_flow.specs.declared.flow.End.{End}
 use Rattle.pw_flow.specs.declared.flow.End.TheVariants.{Return}
-use Rattle.pw_flow.specs.Uses.{op_uses, op_defines}
 use Rattle.pw_webflow.specs.declared.web.WebFn.{WebFn}
 use Rattle.pw_alloc.specs.declared.located.Located.{Located}
 use Rattle.pw_db_sound.specs.CallGraphs.{Calls}
@@ -16,20 +14,14 @@ use Rattle.pw_db_sound.specs.Sound.{Sound, IsFree}
 use Rattle.pw_run_languages.specs.Programs.{Program, Library, library_at}
 use Rattle.pw_run_languages.specs.LawfulPrograms.{IsProgram, graph_of}
 use Rattle.pw_run_languages.specs.Commands as command
-use Rattle.pw_run_languages.specs.Commands.{command}
 use Rattle.pw_run_languages.specs.PlacedRun.{PlacedProgram, globals_now, On, takes_result, obeys, ends, returns, start, step, function_named}
 use Rattle.pw_run_languages.specs.PlacedRun.{calls as place_calls}
 use Rattle.pw_run_languages.specs.Direction.{directed_functions, with_functions, unplaced}
 use Rattle.pw_run_languages.specs.Serving.{AllServe, Serves}
+use Rattle.pw_law_operations.specs.Laws.{StaysInside, HasResult}
 use Rattle.pw_law_direction.specs.Values.{AreFine}
 use Rattle.pw_law_placed.specs.Twins.{Active, Twin, bare_frame, placed_frame, bare_side, placed_side, bare_program}
 use Rattle.pw_law_placed.specs.Alike.{Registers, WebsAgree, AllWait, IsReady, IsCalling, IsAlike, Follows, given_back, name_of}
-
--- what an operation asks for depends on the temporaries that it reads alone
-abbrev pub CommandsRestOnUses : Type 0
-CommandsRestOnUses =
-    (p : Program) (base : ℕ) (o : Op) (a b : ℕ → Value) → ((t : ℕ) → Contains (op_uses o) t → a t ≡ b t) →
-    command p base o a ≡ command p base o b
 
 -- ---- registers
 
@@ -65,24 +57,6 @@ ResultsFollow =
 -- both runs of a program: without places, and with those that serve
 abbrev pub IsServed : Program → List (List ℕ × Directives) → List Located → Type 0
 IsServed p d ls = AllServe (directed_functions p d) ls
-
--- a command that calls nothing
-abbrev pub StaysInside : command.Command → Type 0
-StaysInside (command.Enter t f args) = ⊥
-StaysInside c = Unit {0}
-
--- it gives its result to this temporary
-abbrev pub HasResult : Option ℕ → command.Command → Type 0
-HasResult result (command.Give t v) = result ≡ Some t
-HasResult result (command.Combine k t v w) = result ≡ Some t
-HasResult result (command.Look k t a) = result ≡ Some t
-HasResult result (command.GetGlobal t g k) = result ≡ Some t
-HasResult result (command.Enter t f args) = result ≡ t
-HasResult result command.Fail = Unit {0}
-HasResult result c = result ≡ None
-
-abbrev pub CommandsHaveResults : Type 0
-CommandsHaveResults = (p : Program) (base : ℕ) (o : Op) (value : ℕ → Value) → HasResult (op_defines o) (command p base o value)
 
 abbrev pub CommandsFollow : Type 0
 CommandsFollow =

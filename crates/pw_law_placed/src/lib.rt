@@ -1,16 +1,11 @@
 //! The law of places, without code: the run of functions whose temporaries have places beside the directed run.
 #![tactic(auto)]
 
-ghost use Rattle.pw_law_placed.specs.Laws.{BlocksFollow, CallsFollow, CommandsFollow, CommandsHaveResults, CommandsRestOnUses, GlobalsStandAlike, LibraryFollows, ResultsFollow, ReturnsFollow, SameFunctions, StartsFollow, StepsFollow, WaitingRestsOnKept};
+ghost use Rattle.pw_law_placed.specs.Laws.{BlocksFollow, CallsFollow, CommandsFollow, GlobalsStandAlike, LibraryFollows, ResultsFollow, ReturnsFollow, SameFunctions, StartsFollow, StepsFollow, WaitingRestsOnKept};
 ghost use Rattle.pw_run_languages.specs.PlacementLaws.{PlacesKeepRuns};
 
 use pw_db_sound::callers_leave_free_registers_alone;
 use pw_law_direction::{directed_values_are_fine, operations_call_by_the_graph};
-
-/// What an operation asks for depends on the temporaries that it reads alone.
-pub fn commands_rest_on_uses()
-    ensures { CommandsRestOnUses }
-{}
 
 /// Where the registers of the webs hold the same in both runs, the globals stand where they stand.
 pub fn globals_stand_alike()
@@ -25,11 +20,6 @@ pub fn waiting_rests_on_kept()
 /// A result goes to its place, and what is still needed stays, of the function and of those that wait.
 pub fn results_follow()
     ensures { ResultsFollow }
-{}
-
-/// A command gives its result to the temporary that its operation defines.
-pub fn commands_have_results()
-    ensures { CommandsHaveResults }
 {}
 
 /// A command that calls nothing does the same in both runs.

@@ -31,12 +31,13 @@ pub record Counts (world : World) (events : ℕ) (m : Machine) (s : State) : Typ
   pub counted : m.events + events ≤ machine.events
   pub shows : Shows world s machine
 
--- An end is met by that end, the bound by so many events more, and an operation without meaning by anything.
+-- An end is met by that end, the bound by so many events more, an undefined operation by a machine that has shown what the
+-- state has, whatever it does from there; and what no accepted program does by anything.
 abbrev pub EndMet : World → ℕ → Machine → Ending → State → Type 0
 EndMet world bound m (Exit status) s = Stops world (Ended status) m s
 EndMet world bound m StackFull s = Stops world run.StackFull m s
 EndMet world bound m Bound s = Counts world bound m s
-EndMet world bound m (Undefined operation home token) s = Unit {0}
+EndMet world bound m (Undefined operation home token) s = Reaches (graphs world) m (Shows world s)
 EndMet world bound m Wrong s = Unit {0}
 
 -- An outcome that gives a value is met where the machine comes to one of which this holds.

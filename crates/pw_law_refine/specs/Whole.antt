@@ -1,17 +1,18 @@
 -- The law: lowering keeps the meaning of programs. And what it rests on.
-use Rattle.std.specs.Prelude.{ℕ, ◌≡◌, Some, None, List, [], ◌∷◌, length}
+use Rattle.std.specs.Prelude.{ℕ, ◌≡◌, ◌≢◌, Some, None, List, [], ◌∷◌, length}
 use Rattle.pw_value.specs.declared.value.Value.TheVariants.{Undefined}
 use Rattle.pw_value.specs.ProgramNames.{main_name, exit_name}
 use Rattle.pw_flow.specs.declared.flow.Op.TheVariants.{Call}
 use Rattle.pw_flow.specs.declared.flow.End.TheVariants.{Return}
 use Rattle.pw_lower.specs.Modules.{start_function}
 use Rattle.pw_cmean.specs.Worlds.{Program, World, Callable, function_named}
-use Rattle.pw_cmean.specs.SourceRun.{start_state}
+use Rattle.pw_cmean.specs.Acts.{Wrong}
+use Rattle.pw_cmean.specs.SourceRun.{start_state, source_run}
 use Rattle.pw_run.specs.Runs.{Refines}
 use Rattle.pw_law_source.specs.FromRunLanguages.Programs as flows
 use Rattle.pw_law_source.specs.FromRunLanguages.Programs.{AreBytes, NoneForLibrary, start_objects}
 use Rattle.pw_law_source.specs.FromRunLanguages.FlowRun.{Machine, On, start, flow_run}
-use Rattle.pw_law_source.specs.Source.{source_stages}
+use Rattle.pw_law_source.specs.Source.{source_progress}
 use Rattle.pw_law_source.specs.Lowering.{MomentKept, flow_program, IsAccepted, AreChecked}
 use Rattle.pw_law_refine.specs.Lowerable.{IsLowerable, IsLowerableWorld}
 use Rattle.pw_law_refine.specs.Standing.{Spot}
@@ -22,14 +23,16 @@ use Rattle.pw_law_refine.specs.Statements.{StatementsKeep}
 use Rattle.pw_law_refine.specs.Calls.{FitShape, CallsKeep, FunctionsKeep}
 
 -- The run of the flow graphs meets each stage of the source's run: where that ends or is out of stack within a bound, so
--- is it; where the bound is reached, it goes on and has counted no fewer events; each time with the same output and
--- count of bytes read, the same calls and returns, and the same values in globals at each.
+-- is it; where the bound is reached, it goes on and has counted no fewer events; and where the source comes to an undefined
+-- operation, it comes that far. Each time it has the same output and count of bytes read, the same calls and returns, and the
+-- same values in globals at each.
 abbrev pub ProgramsKeepRuns : Type 0
 ProgramsKeepRuns =
     (p : Program) (frame_of : List ℕ → ℕ) (stack : ℕ) (input : List ℕ) →
     IsLowerable p frame_of stack → NoneForLibrary frame_of → AreBytes input →
+    ((n : ℕ) → (source_run p frame_of stack input n).end ≢ Wrong) →
     Refines (MomentKept (flow_program p frame_of stack))
-    (source_stages p frame_of stack input) (flow_run (flow_program p frame_of stack) input)
+    (source_progress p frame_of stack input) (flow_run (flow_program p frame_of stack) input)
 
 -- what checking owes: of what it answers for texts, what is accepted is lowerable
 abbrev pub CheckedIsLowerable : Type 0

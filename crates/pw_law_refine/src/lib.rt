@@ -8,7 +8,7 @@ ghost use Rattle.pw_lower.specs.Statements.{Frame, lower_statement};
 ghost use Rattle.pw_lower.specs.declared.code.Code.{Code};
 ghost use Rattle.pw_lower.specs.declared.place.Ways.{Ways};
 ghost use Rattle.pw_types.specs.TypedTrees.{Expression, Statement};
-ghost use Rattle.pw_law_source.specs.Lowering.{LoweringKeepsRuns};
+ghost use Rattle.pw_law_source.specs.Lowering.{LoweringKeepsRuns, SourceIsNeverWrong};
 ghost use Rattle.pw_law_refine.specs.Containing.{ContainsCode};
 ghost use Rattle.pw_law_refine.specs.Whole.{ProgramsKeepRuns, CheckedIsLowerable};
 
@@ -24,8 +24,9 @@ pub fn graphs_contain_the_parts()
     later_code_keeps();
 }
 
-/// The layer's law follows: where the flow graphs of lowerable programs keep their runs, and what is accepted
-/// of checked programs is lowerable, the flow graphs of accepted programs of checked texts keep their runs.
+/// The layer's law follows: where the flow graphs of lowerable programs keep their runs, what is accepted of checked programs
+/// is lowerable, and their runs do nothing that no accepted program does, the flow graphs of accepted programs of checked texts
+/// keep their runs.
 pub fn layers_rest_on_programs()
-    ensures { ProgramsKeepRuns → CheckedIsLowerable → LoweringKeepsRuns }
+    ensures { ProgramsKeepRuns → CheckedIsLowerable → SourceIsNeverWrong → LoweringKeepsRuns }
 {}

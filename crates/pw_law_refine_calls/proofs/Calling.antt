@@ -166,7 +166,7 @@ module _
     }
     wrapped (Ends source.StackFull t) q = stops-so run.StackFull t q
     wrapped (Ends (source.Exit status) t) q = stops-so (run.Ended status) t q
-    wrapped (Ends (source.Undefined operation at token) t) q = tt
+    wrapped (Ends (source.Undefined operation at token) t) q = record { count = suc q.count; machine = q.machine; comes = comes-so q.count _ q.comes; holds = q.holds }
     wrapped (Ends source.Wrong t) q = tt
 
 defined-keeps :

@@ -4,7 +4,7 @@ use Rattle.std.specs.List.{AllByRecursion, flat_map}
 use Rattle.std.proofs.lemmas.Option.{slice_get_within}
 use Rattle.std.proofs.lemmas.List.Elements.{recursion_from_All}
 use Rattle.pw_types.specs.TypeTrees.{QTypes, NoType, OneType}
-use Rattle.pw_types.specs.TypedTrees.{Expression, Node, Number, Str, Local, Global, Function, Unary, Binary, Logic, Cond, Comma, Assign, Compound, Step, Cast, Decay, Member, Deref, Address, Call, CallValue, Expressions, NoExpression, OneExpression, Initialiser, Value, Bytes, Statement, Empty, Evaluate, Block, If, While, Do, For, Switch, Label, Goto, Break, Continue, Return, Arms, NoArm, Arm, Otherwise, NoElse, Else, Statements, NoStatement, OneStatement, LocalValue, FunctionValue, ModuleValue}
+use Rattle.pw_types.specs.TypedTrees.{Expression, Node, Number, Str, Local, Global, Function, Unary, Binary, Logic, Cond, Comma, Assign, Compound, Step, Cast, Decay, Member, Deref, Address, Call, CallValue, Expressions, NoExpression, OneExpression, Initialiser, Value, Bytes, Statement, Evaluate, Block, If, While, Do, For, Switch, Label, Return, Arms, NoArm, Arm, Otherwise, NoElse, Else, Statements, NoStatement, OneStatement, LocalValue, FunctionValue, ModuleValue}
 use Rattle.pw_types.specs.TypedModules.{Initialises, IsStatement, AreStatements, AreArms, IsElse}
 use Rattle.pw_types.specs.WellTyped.{IsTyped, IsTypedOrAbsent, IsConditionOrAbsent, AreArguments}
 use Rattle.pw_lower.specs.Places.{addressed_in, addressed_in_all, addressed_in_option, addressed_in_initialiser, addressed_in_statement, addressed_in_arms, addressed_in_otherwise, addressed_in_statements}
@@ -73,7 +73,6 @@ module _ (m : ModuleValue) (f : FunctionValue) where
     unfolding IsStatement
 
     pub in-statement : (b c : Bool) (from : ℕ) (a : Statement) → IsStatement m f b c from a → Locals m f.locals (addressed_in_statement a)
-    in-statement b c from (Empty t) h = tt
     in-statement b c from (Evaluate t e) h = in-expression m f.locals e h
     in-statement b c from (Block t first count initialisers items) h =
         both m f.locals (flat_map addressed_in_initialiser initialisers) (addressed_in_statements items)
@@ -93,11 +92,8 @@ module _ (m : ModuleValue) (f : FunctionValue) where
     in-statement b c from (Switch t e cases default body) h =
         both m f.locals (addressed_in e) (addressed_in_statement body) (in-expression m f.locals e h.0) (in-statement true c from body h.2)
     in-statement b c from (Label t labels body) h = in-statement b c from body h.1
-    in-statement b c from (Goto t n) h = tt
-    in-statement b c from (Break t) h = tt
-    in-statement b c from (Continue t) h = tt
-    in-statement b c from (Return t None) h = tt
     in-statement b c from (Return t (Some e)) h = in-expression m f.locals e h.0
+    in-statement b c from _ h = tt
 
     pub in-statements : (b c : Bool) (from : ℕ) (all : Statements) → AreStatements m f b c from all → Locals m f.locals (addressed_in_statements all)
     in-statements b c from NoStatement h = tt

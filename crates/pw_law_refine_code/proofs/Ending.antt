@@ -8,7 +8,7 @@ use Rattle.pw_value.specs.declared.value.Kind.{Kind}
 use Rattle.pw_types.specs.Labels.{labels_in, labels_among, cases_in, cases_among}
 use Rattle.pw_types.specs.TypeTrees.{CType}
 use Rattle.pw_types.specs.TypedModules.{IsStatement, AreStatements}
-use Rattle.pw_types.specs.TypedTrees.{Expression, Initialiser, Value, Bytes, LocalValue, Statement, Empty, Evaluate, Block, If, While, Do, For, Switch, Label, Goto, Break, Continue, Return, NoArm, Arm, NoElse, Else, Statements, NoStatement, OneStatement, FunctionValue, ModuleValue}
+use Rattle.pw_types.specs.TypedTrees.{Expression, Initialiser, Value, Bytes, LocalValue, Statement, Empty, Evaluate, Block, If, Label, Return, NoArm, Arm, NoElse, Else, Statements, NoStatement, OneStatement, FunctionValue, ModuleValue}
 use Rattle.pw_flow.specs.declared.flow.End.TheVariants.{Jump}
 use Rattle.pw_lower.specs.declared.code.Code.{Code}
 use Rattle.pw_lower.specs.declared.code.Numbered.{Numbered}
@@ -236,10 +236,6 @@ module _ (known : OfExpressions) (kept : (h : Home) (e : Expression) (c : Code) 
     statement-ends m f breaks continues from frame ways (If t (Arm u e s NoArm) NoElse) c typed fits = let x = lower-spreads known frame.home e c in inr (inl (omega (arith, x.counts)))
     statement-ends m f breaks continues from frame ways (If t (Arm u e s NoArm) (Else r)) c typed fits = let x = lower-spreads known frame.home e c in inr (inl (omega (arith, x.counts)))
     statement-ends m f breaks continues from frame ways (If t (Arm u e s (Arm v a r rest)) otherwise) c typed fits = let x = lower-spreads known frame.home e c in inr (inl (omega (arith, x.counts)))
-    statement-ends m f breaks continues from frame ways (While t e body) c typed fits = inr (inl (omega arith))
-    statement-ends m f breaks continues from frame ways (Do t body e) c typed fits = inr (inl (omega arith))
-    statement-ends m f breaks continues from frame ways (For t first condition third body) c typed fits = inr (inl (omega arith))
-    statement-ends m f breaks continues from frame ways (Switch t e cases default body) c typed fits = inr (inl (omega arith))
     statement-ends m f breaks continues from frame ways (Label t [] body) c typed fits = absurd (typed.0 refl)
     statement-ends m f breaks continues from frame ways (Label t (l ∷ own) body) c typed fits =
         let d = begun_labels (l ∷ own) c in
@@ -247,12 +243,9 @@ module _ (known : OfExpressions) (kept : (h : Home) (e : Expression) (c : Code) 
         let inner = fits-back (length c.labels) (length d.labels) (l ∷ own) (labels_in body) [] (cases_in body) start.size fits in
         ends-join fits.once start (statement-opens known m f breaks continues from frame ways body d typed.1 inner)
         (begun-ends l own c) (statement-ends m f breaks continues from frame ways body d typed.1 inner)
-    statement-ends m f breaks continues from frame ways (Goto t l) c typed fits = inr (inl (omega arith))
-    statement-ends m f breaks continues from frame ways (Break t) c typed fits = inr (inl (omega arith))
-    statement-ends m f breaks continues from frame ways (Continue t) c typed fits = inr (inl (omega arith))
-    statement-ends m f breaks continues from frame ways (Return t None) c typed fits = inr (inl (omega arith))
     statement-ends m f breaks continues from frame ways (Return t (Some e)) c typed fits =
         let s = lower-spreads known frame.home e c in inr (inl (omega (arith, s.counts)))
+    statement-ends m f breaks continues from frame ways _ c typed fits = inr (inl (omega arith))
 
     pub statements-end :
         (m : ModuleValue) (f : FunctionValue) (breaks continues : Bool) (from : ℕ) (frame : Frame) (ways : Ways) (all : Statements) (c : Code)

@@ -101,7 +101,7 @@ pointer-call :
     → Meets x.world bound n (call_value (env_of x numbers) (calls x.world bound) token of p vs u) (λ result t o. (is_void ty ≡ true → result ≡ None) → HasValue x numbers spots [] (called ty (λ r. op.CallInd r a shape ts) c) c u n result t o)
 unfolding call_value need give stop wrong ◌>>=◌ go_on command
 pointer-call laws names bound keeps x numbers spots token ty of shape result params a ts p vs c u n active ready lowered meant fits stand st holds =
-    judged x.world bound n (site (env_of x numbers) token) (U.NotAFunction when is_none (callee_of x.world.program p) ∷ U.FunctionShape when option_map_or (λ f. not (bytes_eq f.shape (shape_of x.home.tree.records (pointed of) false))) (callee_of x.world.program p) false ∷ []) _ u _ (λ none.
+    judged x.world bound n (site (env_of x numbers) token) (U.NotAFunction when is_none (callee_of x.world.program p) ∷ U.FunctionShape when option_map_or (λ f. not (bytes_eq f.shape (shape_of x.home.tree.records (pointed of) false))) (callee_of x.world.program p) false ∷ []) _ u _ ready.related.matches.shows (λ none.
     let second = first-false U.NotAFunction (is_none (callee_of x.world.program p)) (U.FunctionShape when option_map_or (λ f. not (bytes_eq f.shape (shape_of x.home.tree.records (pointed of) false))) (callee_of x.world.program p) false ∷ []) none in
     by_value p st (first-false U.FunctionShape (option_map_or (λ f. not (bytes_eq f.shape (shape_of x.home.tree.records (pointed of) false))) (callee_of x.world.program p) false) [] second.1).0)
   where

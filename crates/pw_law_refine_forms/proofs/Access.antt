@@ -151,7 +151,7 @@ pub led-reads :
     → Meets x.world bound m (load at ty place s) (λ v t n. HasValue x numbers spots [] (read_target k (Led a) d) d s m (Some v) t n)
 unfolding load objects_now look within give wrong stop command ◌>>=◌ go_on
 led-reads laws bound x numbers spots ty k at a d s m (V.At (P.Object o i)) e ready holds st =
-    judged x.world bound m at (reading s.objects ty (V.At (P.Object o i))) _ s _ (λ none.
+    judged x.world bound m at (reading s.objects ty (V.At (P.Object o i))) _ s _ ready.related.matches.shows (λ none.
     let allowed = reading-allowed s.objects ty o i none in
     let f = st.1.object in
     let w = flow.scalar_of k (bytes_from (kind_size k) i (object_at m.objects f).bytes) in
@@ -159,11 +159,11 @@ led-reads laws bound x numbers spots ty k at a d s m (V.At (P.Object o i)) e rea
     (look-stands x numbers spots d s m ty k o i f st.1.size ready e allowed.live st.1.there)
     (λ rest. ap (λ (u : Option Value). run.gives d.temps u (record m { frame = record m.frame { ops = rest } }))
     (ap (λ (u : Value). flow.look k u m.objects) (st.2 ∙ ap V.At st.1.is) ∙ looks-in spots s.objects m.objects ty k o i f st.1.size ready.related.matches.memory e allowed st.1.there)))
-led-reads laws bound x numbers spots ty k at a d s m (V.At (P.Function f)) e ready holds st = judged x.world bound m at (reading s.objects ty (V.At (P.Function f))) _ s _ (λ none. tt)
-led-reads laws bound x numbers spots ty k at a d s m V.Undefined e ready holds st = judged x.world bound m at (reading s.objects ty V.Undefined) _ s _ (λ none. tt)
-led-reads laws bound x numbers spots ty k at a d s m (V.Num n) e ready holds st = judged x.world bound m at (reading s.objects ty (V.Num n)) _ s _ (λ none. tt)
-led-reads laws bound x numbers spots ty k at a d s m V.Null e ready holds st = judged x.world bound m at (reading s.objects ty V.Null) _ s _ (λ none. tt)
-led-reads laws bound x numbers spots ty k at a d s m (V.Piece p i) e ready holds st = judged x.world bound m at (reading s.objects ty (V.Piece p i)) _ s _ (λ none. tt)
+led-reads laws bound x numbers spots ty k at a d s m (V.At (P.Function f)) e ready holds st = judged x.world bound m at (reading s.objects ty (V.At (P.Function f))) _ s _ ready.related.matches.shows (λ none. tt)
+led-reads laws bound x numbers spots ty k at a d s m V.Undefined e ready holds st = judged x.world bound m at (reading s.objects ty V.Undefined) _ s _ ready.related.matches.shows (λ none. tt)
+led-reads laws bound x numbers spots ty k at a d s m (V.Num n) e ready holds st = judged x.world bound m at (reading s.objects ty (V.Num n)) _ s _ ready.related.matches.shows (λ none. tt)
+led-reads laws bound x numbers spots ty k at a d s m V.Null e ready holds st = judged x.world bound m at (reading s.objects ty V.Null) _ s _ ready.related.matches.shows (λ none. tt)
+led-reads laws bound x numbers spots ty k at a d s m (V.Piece p i) e ready holds st = judged x.world bound m at (reading s.objects ty (V.Piece p i)) _ s _ ready.related.matches.shows (λ none. tt)
 
 kept-reads :
     Laws → (bound : ℕ) (x : Activation) (numbers : Numbers) (spots : List Spot) (ty : CType) (k : Kind) (at : Site) (t j o : ℕ) (d : Code) (s : State) (m : Machine)
@@ -172,7 +172,7 @@ kept-reads :
     → Meets x.world bound m (load at ty (V.At (P.Object o 0)) s) (λ v u n. HasValue x numbers spots [] (read_target k (Kept t) d) d s m (Some v) u n)
 unfolding load objects_now look within give command ◌>>=◌ go_on
 kept-reads laws bound x numbers spots ty k at t j o d s m e ready holds suits named place =
-    judged x.world bound m at (reading s.objects ty (V.At (P.Object o 0))) _ s _ (λ none.
+    judged x.world bound m at (reading s.objects ty (V.At (P.Object o 0))) _ s _ ready.related.matches.shows (λ none.
     let own = ready.related.frame.locals j o named in
     let bytes = (object_at s.objects o).bytes in
     let here : StandsAt x spots s m own.local o (Temp t) = subst (λ (p : LocalPlace). StandsAt x spots s m own.local o p) place own.stands in
@@ -223,7 +223,7 @@ pub led-writes :
     → Meets x.world bound m (store purpose at ty place v s) (λ u r n. HasValue x numbers spots assigned (lowered_as (Some t) (write k (Led a) t d)) d s m (Some v) r n)
 unfolding store objects_now look within source.write give wrong stop command ◌>>=◌ go_on
 led-writes laws bound x numbers spots assigned purpose ty k at a t d s m (V.At (P.Object o i)) v e ready holds typed sv st =
-    judged x.world bound m at (writing purpose s.objects (source_access.width_of ty) (source_access.width_of ty) (V.At (P.Object o i))) _ s _ (λ none.
+    judged x.world bound m at (writing purpose s.objects (source_access.width_of ty) (source_access.width_of ty) (V.At (P.Object o i))) _ s _ ready.related.matches.shows (λ none.
     let allowed = writing-allowed purpose s.objects (source_access.width_of ty) (source_access.width_of ty) o i none in
     let f = st.1.object in
     let size = st.1.size in
@@ -255,15 +255,15 @@ led-writes laws bound x numbers spots assigned purpose ty k at a t d s m (V.At (
       };
     })
 led-writes laws bound x numbers spots assigned purpose ty k at a t d s m (V.At (P.Function f)) v e ready holds typed sv st =
-    judged x.world bound m at (writing purpose s.objects (source_access.width_of ty) (source_access.width_of ty) (V.At (P.Function f))) _ s _ (λ none. tt)
+    judged x.world bound m at (writing purpose s.objects (source_access.width_of ty) (source_access.width_of ty) (V.At (P.Function f))) _ s _ ready.related.matches.shows (λ none. tt)
 led-writes laws bound x numbers spots assigned purpose ty k at a t d s m V.Undefined v e ready holds typed sv st =
-    judged x.world bound m at (writing purpose s.objects (source_access.width_of ty) (source_access.width_of ty) V.Undefined) _ s _ (λ none. tt)
+    judged x.world bound m at (writing purpose s.objects (source_access.width_of ty) (source_access.width_of ty) V.Undefined) _ s _ ready.related.matches.shows (λ none. tt)
 led-writes laws bound x numbers spots assigned purpose ty k at a t d s m (V.Num j) v e ready holds typed sv st =
-    judged x.world bound m at (writing purpose s.objects (source_access.width_of ty) (source_access.width_of ty) (V.Num j)) _ s _ (λ none. tt)
+    judged x.world bound m at (writing purpose s.objects (source_access.width_of ty) (source_access.width_of ty) (V.Num j)) _ s _ ready.related.matches.shows (λ none. tt)
 led-writes laws bound x numbers spots assigned purpose ty k at a t d s m V.Null v e ready holds typed sv st =
-    judged x.world bound m at (writing purpose s.objects (source_access.width_of ty) (source_access.width_of ty) V.Null) _ s _ (λ none. tt)
+    judged x.world bound m at (writing purpose s.objects (source_access.width_of ty) (source_access.width_of ty) V.Null) _ s _ ready.related.matches.shows (λ none. tt)
 led-writes laws bound x numbers spots assigned purpose ty k at a t d s m (V.Piece p i) v e ready holds typed sv st =
-    judged x.world bound m at (writing purpose s.objects (source_access.width_of ty) (source_access.width_of ty) (V.Piece p i)) _ s _ (λ none. tt)
+    judged x.world bound m at (writing purpose s.objects (source_access.width_of ty) (source_access.width_of ty) (V.Piece p i)) _ s _ ready.related.matches.shows (λ none. tt)
 
 kept-writes :
     Laws → (bound : ℕ) (x : Activation) (numbers : Numbers) (spots : List Spot) (assigned : List ℕ) (purpose : Purpose) (ty : CType) (k : Kind) (at : Site) (t r j o : ℕ) (d : Code) (s : State) (m : Machine) (v : Value)
@@ -273,7 +273,7 @@ kept-writes :
     → Meets x.world bound m (store purpose at ty (V.At (P.Object o 0)) v s) (λ u q n. HasValue x numbers spots assigned (lowered_as (Some r) (write k (Kept t) r d)) d s m (Some v) q n)
 unfolding store objects_now look within source.write give command ◌>>=◌ go_on
 kept-writes laws bound x numbers spots assigned purpose ty k at t r j o d s m v e ready holds suits covers fresh typed sv named place =
-    judged x.world bound m at (writing purpose s.objects (source_access.width_of ty) (source_access.width_of ty) (V.At (P.Object o 0))) _ s _ (λ none.
+    judged x.world bound m at (writing purpose s.objects (source_access.width_of ty) (source_access.width_of ty) (V.At (P.Object o 0))) _ s _ ready.related.matches.shows (λ none.
     let own = ready.related.frame.locals j o named in
     let bytes = (object_at s.objects o).bytes in
     let w = value_in m.frame r in
@@ -310,7 +310,7 @@ kept-writes laws bound x numbers spots assigned purpose ty k at t r j o d s m v 
 pub kept-stays : Laws → WritesStay
 unfolding store objects_now look within source.write give ◌>>=◌ go_on steps
 kept-stays laws bound x numbers spots purpose ty k at t j o s m v e related suits named place room typed sv =
-    judged x.world bound m at (writing purpose s.objects (source_access.width_of ty) (source_access.width_of ty) (V.At (P.Object o 0))) _ s _ (λ none.
+    judged x.world bound m at (writing purpose s.objects (source_access.width_of ty) (source_access.width_of ty) (V.At (P.Object o 0))) _ s _ related.matches.shows (λ none.
     let own = related.frame.locals j o named in
     let bytes = (object_at s.objects o).bytes in
     let w = value_in m.frame t in
@@ -345,7 +345,7 @@ named-reads :
     → Meets x.world bound m (load at ty (V.At (P.Object o 0)) s) (λ v u n. HasValue x numbers spots [] (read_target k (Named g) d) d s m (Some v) u n)
 unfolding load objects_now look within give command ◌>>=◌ go_on
 named-reads laws bound x numbers spots ty k at g o d s m e ready holds suits number =
-    judged x.world bound m at (reading s.objects ty (V.At (P.Object o 0))) _ s _ (λ none.
+    judged x.world bound m at (reading s.objects ty (V.At (P.Object o 0))) _ s _ ready.related.matches.shows (λ none.
     let allowed = reading-allowed s.objects ty o 0 none in
     let q = global-at x numbers spots d s m g o ready number in
     let w = flow.scalar_of k (bytes_from (kind_size k) 0 (object_at m.objects o).bytes) in
@@ -361,7 +361,7 @@ named-writes :
     → Meets x.world bound m (store purpose at ty (V.At (P.Object o 0)) v s) (λ u r n. HasValue x numbers spots assigned (lowered_as (Some t) (write k (Named g) t d)) d s m (Some v) r n)
 unfolding store objects_now look within source.write give command ◌>>=◌ go_on
 named-writes laws bound x numbers spots assigned purpose ty k at g t o d s m v e ready holds suits typed sv number =
-    judged x.world bound m at (writing purpose s.objects (source_access.width_of ty) (source_access.width_of ty) (V.At (P.Object o 0))) _ s _ (λ none.
+    judged x.world bound m at (writing purpose s.objects (source_access.width_of ty) (source_access.width_of ty) (V.At (P.Object o 0))) _ s _ ready.related.matches.shows (λ none.
     let allowed = writing-allowed purpose s.objects (source_access.width_of ty) (source_access.width_of ty) o 0 none in
     let q = global-at x numbers spots d s m g o ready number in
     let w = value_in m.frame t in

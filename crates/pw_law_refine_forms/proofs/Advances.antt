@@ -97,7 +97,7 @@ adds laws bound x numbers spots offset y s m o i false some ready low given hold
 pub advances : Laws → AdvancesKeep
 unfolding advance objects_now look need give stop wrong ◌>>=◌ go_on
 advances laws bound x numbers spots at offset y s m (V.At (P.Object o i)) ready given holds st =
-    judged x.world bound m at (U.EndedObject when is_ended s.objects (V.At (P.Object o i)) ∷ U.PointerArithmetic when is_none (moved s.objects (V.At (P.Object o i)) (pos offset)) ∷ []) _ s _ (λ none.
+    judged x.world bound m at (U.EndedObject when is_ended s.objects (V.At (P.Object o i)) ∷ U.PointerArithmetic when is_none (moved s.objects (V.At (P.Object o i)) (pos offset)) ∷ []) _ s _ ready.related.matches.shows (λ none.
     let a = first-false U.EndedObject (is_ended s.objects (V.At (P.Object o i))) (U.PointerArithmetic when is_none (moved s.objects (V.At (P.Object o i)) (pos offset)) ∷ []) none in
     let b = first-false U.PointerArithmetic (is_none (moved s.objects (V.At (P.Object o i)) (pos offset))) [] a.1 in
     let live = not-false (object_at s.objects o).live a.0 in
@@ -106,4 +106,4 @@ advances laws bound x numbers spots at offset y s m (V.At (P.Object o i)) ready 
     subst (λ (r : Option Value). Meets x.world bound m (need r s) (λ v. HasValue x numbers spots [] (further offset y) y.code s m (Some v))) (sym k.1)
     (adds laws bound x numbers spots offset y s m o i (offset == 0) refl ready (omega (arith, k.0, few)) given holds st live k.0))
 advances laws bound x numbers spots at offset y s m place ready given holds st =
-    judged x.world bound m at (U.EndedObject when is_ended s.objects place ∷ U.PointerArithmetic when is_none (moved s.objects place (pos offset)) ∷ []) _ s _ (λ none. tt)
+    judged x.world bound m at (U.EndedObject when is_ended s.objects place ∷ U.PointerArithmetic when is_none (moved s.objects place (pos offset)) ∷ []) _ s _ ready.related.matches.shows (λ none. tt)

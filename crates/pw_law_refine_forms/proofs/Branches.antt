@@ -24,7 +24,7 @@ use Rattle.pw_run_languages.specs.Programs.{block_at}
 use Rattle.pw_run_languages.specs.FlowRun.{Machine, Step, On, Astray, value_in, counted, jumps, branches, ends, step, steps}
 use Rattle.pw_law_refine.specs.Standing.{Spot, Leads, Stands, MemoryStands}
 use Rattle.pw_law_refine.specs.Activations.{Activation, Numbers, graphs, graph_of}
-use Rattle.pw_law_refine.specs.Matching.{Related}
+use Rattle.pw_law_refine.specs.Matching.{Shows, Related}
 use Rattle.pw_law_refine.specs.Containing.{IsAt, IsBehind}
 use Rattle.pw_law_refine.specs.Meeting.{Meets}
 use Rattle.pw_law_refine.specs.Expressions.{IsDone}
@@ -70,26 +70,26 @@ pointer-truth objects q h = record {
 
 pub truth-meets :
     (bound : ℕ) (x : Activation) (spots : List Spot) (at : Site) (v w : Value) (s : State) (m : Machine) (R : Bool → State → Machine → Type 0)
-    → MemoryStands spots s.objects m.objects → Stands spots v w
+    → Shows x.world s m → MemoryStands spots s.objects m.objects → Stands spots v w
     → ((holds : Bool) → IsTruth m.objects w holds → R holds s m)
     → Meets x.world bound m (truth at v s) R
 unfolding truth objects_now look need give stop wrong ◌>>=◌ go_on steps
-truth-meets bound x spots at (V.Num n) w s m R memory st f =
-    judged x.world bound m at (U.EndedObject when is_ended s.objects (V.Num n) ∷ U.PointerBytes when is_piece (V.Num n) ∷ []) _ s R (λ none. record {
+truth-meets bound x spots at (V.Num n) w s m R shows memory st f =
+    judged x.world bound m at (U.EndedObject when is_ended s.objects (V.Num n) ∷ U.PointerBytes when is_piece (V.Num n) ∷ []) _ s R shows (λ none. record {
       count = 0;
       machine = m;
       comes = refl;
       holds = f (not (n == 0)) (subst (λ (u : Value). IsTruth m.objects u (not (n == 0))) (sym st) (number-truth m.objects n));
     })
-truth-meets bound x spots at V.Null w s m R memory st f =
-    judged x.world bound m at (U.EndedObject when is_ended s.objects V.Null ∷ U.PointerBytes when is_piece V.Null ∷ []) _ s R (λ none. record {
+truth-meets bound x spots at V.Null w s m R shows memory st f =
+    judged x.world bound m at (U.EndedObject when is_ended s.objects V.Null ∷ U.PointerBytes when is_piece V.Null ∷ []) _ s R shows (λ none. record {
       count = 0;
       machine = m;
       comes = refl;
       holds = f false (subst (λ (u : Value). IsTruth m.objects u false) (sym st) (number-truth m.objects 0));
     })
-truth-meets bound x spots at (V.At p) w s m R memory st f =
-    judged x.world bound m at (U.EndedObject when is_ended s.objects (V.At p) ∷ U.PointerBytes when is_piece (V.At p) ∷ []) _ s R (λ none. record {
+truth-meets bound x spots at (V.At p) w s m R shows memory st f =
+    judged x.world bound m at (U.EndedObject when is_ended s.objects (V.At p) ∷ U.PointerBytes when is_piece (V.At p) ∷ []) _ s R shows (λ none. record {
       count = 0;
       machine = m;
       comes = refl;
@@ -97,22 +97,22 @@ truth-meets bound x spots at (V.At p) w s m R memory st f =
           (pointer-truth m.objects st.0 (somewhere spots s.objects m.objects p st.0 memory st.1
           (first-false U.EndedObject (is_ended s.objects (V.At p)) (U.PointerBytes when is_piece (V.At p) ∷ []) none).0)));
     })
-truth-meets bound x spots at V.Undefined w s m R memory st f =
-    judged x.world bound m at (U.EndedObject when is_ended s.objects V.Undefined ∷ U.PointerBytes when is_piece V.Undefined ∷ []) _ s R (λ none. tt)
-truth-meets bound x spots at (V.Piece p i) w s m R memory st f =
-    judged x.world bound m at (U.EndedObject when is_ended s.objects (V.Piece p i) ∷ U.PointerBytes when is_piece (V.Piece p i) ∷ []) _ s R (λ none. tt)
+truth-meets bound x spots at V.Undefined w s m R shows memory st f =
+    judged x.world bound m at (U.EndedObject when is_ended s.objects V.Undefined ∷ U.PointerBytes when is_piece V.Undefined ∷ []) _ s R shows (λ none. tt)
+truth-meets bound x spots at (V.Piece p i) w s m R shows memory st f =
+    judged x.world bound m at (U.EndedObject when is_ended s.objects (V.Piece p i) ∷ U.PointerBytes when is_piece (V.Piece p i) ∷ []) _ s R shows (λ none. tt)
 
 -- what is met where the truth is known
 pub truth-goes :
     (bound : ℕ) (x : Activation) (spots : List Spot) (at : Site) (v w : Value) (s : State) (m : Machine) (R : Bool → State → Machine → Type 0)
-    → Laws → MemoryStands spots s.objects m.objects → Stands spots v w
+    → Laws → Shows x.world s m → MemoryStands spots s.objects m.objects → Stands spots v w
     → ((holds : Bool) → IsTruth m.objects w holds → Meets x.world bound m (Gives holds s) R)
     → Meets x.world bound m (truth at v s) R
 unfolding give ◌>>=◌ go_on
-truth-goes bound x spots at v w s m R laws memory st f =
+truth-goes bound x spots at v w s m R laws shows memory st f =
     subst (λ (o : Outcome Bool). Meets x.world bound m o R) (back (truth at v s))
     (meets-then laws x.world bound m (truth at v s) give (λ holds u n. Meets x.world bound n (give holds u) R) R
-    (truth-meets bound x spots at v w s m (λ holds u n. Meets x.world bound n (give holds u) R) memory st f) (λ holds u n q. q))
+    (truth-meets bound x spots at v w s m (λ holds u n. Meets x.world bound n (give holds u) R) shows memory st f) (λ holds u n q. q))
   where
     back : (o : Outcome Bool) → go_on o give ≡ o
     back (Gives h u) = refl

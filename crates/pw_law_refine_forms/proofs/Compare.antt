@@ -182,7 +182,7 @@ unfolding ordered objects_now look ◌>>=◌ go_on give compares run.steps
 orders laws bound o can x numbers spots at p q d v w u n both holds =
     meets-then laws x.world bound n (ordered at o v w u) (λ result. give (Some result)) (λ result. HasValue x numbers spots [] (ordered-code (is_turned o) (operation_of o false) p q d) d u n (Some result))
     (HasValue x numbers spots [] (ordered-code (is_turned o) (operation_of o false) p q d) d u n)
-    (judged x.world bound n at (U.EndedObject when (is_ended u.objects v || is_ended u.objects w) ∷ U.DifferentObjects when not (into_one_object v w) ∷ []) _ u _ (λ none.
+    (judged x.world bound n at (U.EndedObject when (is_ended u.objects v || is_ended u.objects w) ∷ U.DifferentObjects when not (into_one_object v w) ∷ []) _ u _ both.ready.related.matches.shows (λ none.
     let a = first-false U.EndedObject (is_ended u.objects v || is_ended u.objects w) (U.DifferentObjects when not (into_one_object v w) ∷ []) none in
     let b = first-false U.DifferentObjects (not (into_one_object v w)) [] a.1 in
     let one = into-one v w (not-false (into_one_object v w) b.0) in
@@ -275,7 +275,7 @@ unfolding compared objects_now look need stop wrong ◌>>=◌ go_on give run.ste
 equals laws bound k turned can x numbers spots at p q d v w u n both holds =
     meets-then laws x.world bound n (compared at turned v w u) (λ result. give (Some result)) (λ result. HasValue x numbers spots [] (ordered-code false k p q d) d u n (Some result))
     (HasValue x numbers spots [] (ordered-code false k p q d) d u n)
-    (judged x.world bound n at (U.EndedObject when (is_ended u.objects v || is_ended u.objects w) ∷ []) _ u _ (λ none.
+    (judged x.world bound n at (U.EndedObject when (is_ended u.objects v || is_ended u.objects w) ∷ []) _ u _ both.ready.related.matches.shows (λ none.
     by_answer (first-false U.EndedObject (is_ended u.objects v || is_ended u.objects w) [] none).0 (same v w) refl))
     (λ result r z h. record { count = 0; machine = z; comes = refl; holds = h })
   where

@@ -111,20 +111,20 @@ pub old-converted :
     → Meets x.world bound n (convert at (Int work) v u) (λ r t q. HasValue x numbers spots [] y c s m (Some r) t q × IsWordValue r)
 unfolding convert give
 old-converted bound x numbers spots at work y c s u m n (V.Num k) temp is p word h =
-    judged x.world bound n at (U.PointerBytes when (is_piece (V.Num k) && not (size_of_kind work == 1)) ∷ []) _ u _ (λ none.
+    judged x.world bound n at (U.PointerBytes when (is_piece (V.Num k) && not (size_of_kind work == 1)) ∷ []) _ u _ h.done.later.related.matches.shows (λ none.
     subst (λ (v : Value). Meets x.world bound n (Gives v u) (λ r t q. HasValue x numbers spots [] y c s m (Some r) t q × IsWordValue r)) (sym (word-number work k p word))
     (meets-here x.world bound n (V.Num k) u (λ r t q. HasValue x numbers spots [] y c s m (Some r) t q × IsWordValue r) (h, word)))
 old-converted bound x numbers spots at work y c s u m n (V.Piece q i) temp is p word h =
-    judged x.world bound n at (U.PointerBytes when (is_piece (V.Piece q i) && not (size_of_kind work == 1)) ∷ []) _ u _ (λ none.
+    judged x.world bound n at (U.PointerBytes when (is_piece (V.Piece q i) && not (size_of_kind work == 1)) ∷ []) _ u _ h.done.later.related.matches.shows (λ none.
     absurd (true≢false (subst (λ (z : ℕ). (true && not (z == 1)) ≡ false) (promoted-size work p) (first-false U.PointerBytes (is_piece (V.Piece q i) && not (size_of_kind work == 1)) [] none).0)))
 old-converted bound x numbers spots at work y c s u m n V.Undefined temp is p word h =
-    judged x.world bound n at (U.PointerBytes when (is_piece V.Undefined && not (size_of_kind work == 1)) ∷ []) _ u _ (λ none.
+    judged x.world bound n at (U.PointerBytes when (is_piece V.Undefined && not (size_of_kind work == 1)) ∷ []) _ u _ h.done.later.related.matches.shows (λ none.
     meets-here x.world bound n V.Undefined u (λ r t q. HasValue x numbers spots [] y c s m (Some r) t q × IsWordValue r) (record { done = h.done; behind = h.behind; stands = undefined-stands h.done.later.spots y.temp temp n is }, tt))
 old-converted bound x numbers spots at work y c s u m n V.Null temp is p word h =
-    judged x.world bound n at (U.PointerBytes when (is_piece V.Null && not (size_of_kind work == 1)) ∷ []) _ u _ (λ none.
+    judged x.world bound n at (U.PointerBytes when (is_piece V.Null && not (size_of_kind work == 1)) ∷ []) _ u _ h.done.later.related.matches.shows (λ none.
     meets-here x.world bound n V.Undefined u (λ r t q. HasValue x numbers spots [] y c s m (Some r) t q × IsWordValue r) (record { done = h.done; behind = h.behind; stands = undefined-stands h.done.later.spots y.temp temp n is }, tt))
 old-converted bound x numbers spots at work y c s u m n (V.At q) temp is p word h =
-    judged x.world bound n at (U.PointerBytes when (is_piece (V.At q) && not (size_of_kind work == 1)) ∷ []) _ u _ (λ none.
+    judged x.world bound n at (U.PointerBytes when (is_piece (V.At q) && not (size_of_kind work == 1)) ∷ []) _ u _ h.done.later.related.matches.shows (λ none.
     meets-here x.world bound n V.Undefined u (λ r t q. HasValue x numbers spots [] y c s m (Some r) t q × IsWordValue r) (record { done = h.done; behind = h.behind; stands = undefined-stands h.done.later.spots y.temp temp n is }, tt))
 
 pub read-temp : (k : Kind) (target : Target) (c : Code) → (read_target k target c).temp ≡ Some c.temps

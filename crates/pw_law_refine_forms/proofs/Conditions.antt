@@ -60,7 +60,7 @@ conditions laws ranges bound keeps x numbers spots a so other next depth c s m a
     (operand laws bound x numbers spots a c s m at active typed ready.related.matches.bytes (keeps a x numbers spots c s m active typed slots whole ready))
     (λ v u n q.
     let later = q.0.done.later in
-    truth-goes bound x later.spots at v (value_in n.frame (temp_of y)) u n (HasChosen x numbers spots a so other c s m) laws later.related.matches.memory (operand-stands later.spots v y.temp n q.0.stands)
+    truth-goes bound x later.spots at v (value_in n.frame (temp_of y)) u n (HasChosen x numbers spots a so other c s m) laws later.related.matches.shows later.related.matches.memory (operand-stands later.spots v y.temp n q.0.stands)
     (λ which truth.
     let b = chosen-there (graph_of x) so other which (branched (graph_of x) (graph_of x).temps (length (graph_of x).slots) y.code.cur (temp_of y) so other block range.blocks there refl) in
     let g = branch-comes x numbers later.spots u n (temp_of y) so other which b.0 later.related truth b.1 (at-end (graph_of x) y.code end n there q.0.behind) in

@@ -102,7 +102,7 @@ copies laws bound x numbers spots assigned purpose at layout to from d s m (V.At
     let unit = layout.align in
     let target = V.At (P.Object a i) in
     let origin = V.At (P.Object b j) in
-    judged x.world bound m at (U.OverlappingCopy when overlap size target origin ∷ (access.access s.objects size unit origin ++ writing purpose s.objects size unit target)) _ s _ (λ none.
+    judged x.world bound m at (U.OverlappingCopy when overlap size target origin ∷ (access.access s.objects size unit origin ++ writing purpose s.objects size unit target)) _ s _ ready.related.matches.shows (λ none.
     let first = first-false U.OverlappingCopy (overlap size target origin) (access.access s.objects size unit origin ++ writing purpose s.objects size unit target) none in
     let from-ok = access-allowed s.objects size unit b j (least-left (access.access s.objects size unit origin) (writing purpose s.objects size unit target) first.1) in
     let to-ok = writing-allowed purpose s.objects size unit a i (least-right (access.access s.objects size unit origin) (writing purpose s.objects size unit target) first.1) in
@@ -141,7 +141,7 @@ copies laws bound x numbers spots assigned purpose at layout to from d s m (V.At
       };
     })
 copies laws bound x numbers spots assigned purpose at layout to from d s m origin target ready holds st so =
-    judged x.world bound m at (U.OverlappingCopy when overlap layout.size target origin ∷ (access.access s.objects layout.size layout.align origin ++ writing purpose s.objects layout.size layout.align target)) _ s _ (λ none. tt)
+    judged x.world bound m at (U.OverlappingCopy when overlap layout.size target origin ∷ (access.access s.objects layout.size layout.align origin ++ writing purpose s.objects layout.size layout.align target)) _ s _ ready.related.matches.shows (λ none. tt)
 
 -- ---- the form
 

@@ -40,7 +40,7 @@ use Rattle.pw_law_refine.specs.Expressions.{IsReady, HasValue}
 use Rattle.pw_law_refine_forms.specs.Operands.{BothStand, Applies}
 use Rattle.pw_law_refine_forms.proofs.Bytes.{same-object}
 use Rattle.pw_law_refine_forms.proofs.Laws.{Laws}
-use Rattle.pw_law_refine_forms.proofs.Simulation.{judged-then}
+use Rattle.pw_law_refine_forms.proofs.Simulation.{judged-then, shown-here}
 use Rattle.pw_law_refine_forms.proofs.Kit.{before-fresh, value-then, none-in}
 use Rattle.pw_law_refine_forms.proofs.Access.{first-false}
 use Rattle.pw_law_refine_forms.proofs.Compare.{into-one}
@@ -204,7 +204,7 @@ distances :
     → Meets x.world bound m ((source.difference at size v w >>= λ result. give (Some result)) u) (HasValue x numbers spots [] (distance size p q d) d u m)
 unfolding source.difference objects_now look give ◌>>=◌ go_on outcome_of undefined stop
 distances laws bound x numbers spots at size p q d v w u m both holds =
-    judged-then x.world bound m at (U.EndedObject when (is_ended u.objects v || is_ended u.objects w) ∷ U.DifferentObjects when not (into_one_object v w) ∷ U.PointerDifference when source.are_no_elements size (unsigned_abs (source.distance v w)) ∷ []) (outcome_of at (exact (int_div (source.distance v w) (pos size)))) (λ result. give (Some result)) u (HasValue x numbers spots [] (distance size p q d) d u m) (λ none.
+    judged-then x.world bound m at (U.EndedObject when (is_ended u.objects v || is_ended u.objects w) ∷ U.DifferentObjects when not (into_one_object v w) ∷ U.PointerDifference when source.are_no_elements size (unsigned_abs (source.distance v w)) ∷ []) (outcome_of at (exact (int_div (source.distance v w) (pos size)))) (λ result. give (Some result)) u (HasValue x numbers spots [] (distance size p q d) d u m) both.ready.related.matches.shows (λ none.
     let rest = U.PointerDifference when source.are_no_elements size (unsigned_abs (source.distance v w)) ∷ [] in
     let a = first-false U.EndedObject (is_ended u.objects v || is_ended u.objects w) (U.DifferentObjects when not (into_one_object v w) ∷ rest) none in
     let b = first-false U.DifferentObjects (not (into_one_object v w)) rest a.1 in
@@ -231,9 +231,9 @@ distances laws bound x numbers spots at size p q d v w u m both holds =
         → (r : Result ℕ WordFault) → exact (int_div (pos i -ℤ pos j) (pos size)) ≡ r
         → Meets x.world bound m ((outcome_of at r >>= λ result. give (Some result)) u) (HasValue x numbers spots [] (distance size p q d) d u m)
     by_outcome f i j some whole hi hj vp vq (Ok a) e = lies-apart laws x numbers spots size p q d u m f i j a (size == 1) refl some (counted size i j hi hj whole) hi hj both.ready vp vq e holds
-    by_outcome f i j some whole hi hj vp vq (Err Overflow) e = tt
-    by_outcome f i j some whole hi hj vp vq (Err ZeroDivisor) e = tt
-    by_outcome f i j some whole hi hj vp vq (Err ShiftCount) e = tt
+    by_outcome f i j some whole hi hj vp vq (Err Overflow) e = shown-here x.world m u both.ready.related.matches.shows
+    by_outcome f i j some whole hi hj vp vq (Err ZeroDivisor) e = shown-here x.world m u both.ready.related.matches.shows
+    by_outcome f i j some whole hi hj vp vq (Err ShiftCount) e = shown-here x.world m u both.ready.related.matches.shows
 
 pub distance-applies : Laws → (bound : ℕ) (left right : QType) → Applies bound B.Subtract (PointerTo left) (PointerTo right)
 unfolding source.binary source.on_pointers source.difference need give stop wrong ◌>>=◌ go_on

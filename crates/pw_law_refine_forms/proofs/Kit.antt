@@ -28,7 +28,7 @@ use Rattle.pw_law_refine.specs.Meeting.{Reaches, Meets}
 use Rattle.pw_law_refine.specs.Expressions.{assigned_in, IsReady, IsDone, HasValue, HasResult, ResultStands}
 use Rattle.pw_law_refine_steps.specs.Stretches.{moved_on, Next}
 use Rattle.pw_law_refine_forms.proofs.Laws.{Laws}
-use Rattle.pw_law_refine_forms.proofs.Simulation.{meets-then, meets-typed}
+use Rattle.pw_law_refine_forms.proofs.Simulation.{meets-then, meets-typed, shown-here}
 
 -- ---- code
 
@@ -224,7 +224,7 @@ operand laws bound x numbers spots a c s m at active typed bytes meets =
   where
     by_result : (r : Option Value) (u : State) (n : Machine) → HasResult x numbers spots a c s m r u n × IsResultOf (type_in a) r
         → Meets x.world bound n (used at r u) (HasOperand x numbers spots a c s m)
-    by_result None u n q = tt
+    by_result None u n q = shown-here x.world n u q.0.done.later.related.matches.shows
     by_result (Some v) u n q = record { count = 0; machine = n; comes = refl; holds = q }
 
 -- the value stands in the operand's temporary

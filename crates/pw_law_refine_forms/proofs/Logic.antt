@@ -72,7 +72,7 @@ forks laws bound x numbers spots a at results c s m next R active typed slots ke
     (operand laws bound x numbers spots a c s m at active typed ready.related.matches.bytes (keeps x numbers spots c s m active typed slots whole ready))
     (λ v u n q.
     let later = q.0.done.later in
-    truth-goes bound x later.spots at v (value_in n.frame (temp_of y)) u n (λ which w r. Meets x.world bound r (next which w) R) laws later.related.matches.memory (operand-stands later.spots v y.temp n q.0.stands)
+    truth-goes bound x later.spots at v (value_in n.frame (temp_of y)) u n (λ which w r. Meets x.world bound r (next which w) R) laws later.related.matches.shows later.related.matches.memory (operand-stands later.spots v y.temp n q.0.stands)
     (λ which truth.
     let b = either-there (graph_of x) k.if_so k.if_not which (begins-there (graph_of x) k.code holds) other in
     let g = branch-comes x numbers later.spots u n (temp_of y) k.if_so k.if_not which b.0 later.related truth b.1 (at-end (graph_of x) y.code end n there q.0.behind) in

@@ -48,7 +48,7 @@ use Rattle.pw_law_refine.specs.Meeting.{Meets}
 use Rattle.pw_law_refine.specs.Expressions.{IsReady, HasValue}
 use Rattle.pw_law_refine_steps.specs.Operations.{extended_by, operated}
 use Rattle.pw_law_refine_forms.proofs.Laws.{Laws}
-use Rattle.pw_law_refine_forms.proofs.Simulation.{meets-here, judged}
+use Rattle.pw_law_refine_forms.proofs.Simulation.{meets-here, judged, shown-here}
 use Rattle.pw_law_refine_forms.proofs.Kit.{before-fresh, nothing-done}
 use Rattle.pw_law_refine_forms.proofs.Bytes.{is-byte}
 use Rattle.pw_law_refine_forms.proofs.Memory.{bytes-of}
@@ -164,9 +164,9 @@ numbers-meet laws nums bound x numbers spots at o s p q d a b u n ha hb both hol
           comes = r.comes;
           holds = (subst (λ (z : Lowered). HasValue x numbers spots [] z d u n (Some (V.Num i)) u r.machine) (sym (plain o s p q d)) r.holds, (i, refl, good i e));
         }
-    by_outcome (Err Overflow) e = tt
-    by_outcome (Err ZeroDivisor) e = tt
-    by_outcome (Err ShiftCount) e = tt
+    by_outcome (Err Overflow) e = shown-here x.world n u both.ready.related.matches.shows
+    by_outcome (Err ZeroDivisor) e = shown-here x.world n u both.ready.related.matches.shows
+    by_outcome (Err ShiftCount) e = shown-here x.world n u both.ready.related.matches.shows
 
 -- ---- conversions
 
@@ -197,7 +197,7 @@ pub converts :
     → Meets x.world bound n (convert at (Int to) (V.Num i) u) (λ r v q. HasValue x numbers spots [] (lowering.extended (extension (kind_of_int from) (kind_of_int to)) t d) d u n (Some r) v q × (r ≡ converted (V.Num i) to))
 unfolding convert give
 converts laws nums bound x numbers spots at from to t d i u n typed ready holds is =
-    judged x.world bound n at (U.PointerBytes when (is_piece (V.Num i) && not (size_of_kind to == 1)) ∷ []) _ u _ (λ none.
+    judged x.world bound n at (U.PointerBytes when (is_piece (V.Num i) && not (size_of_kind to == 1)) ∷ []) _ u _ ready.related.matches.shows (λ none.
     with-equal x bound n (converted (V.Num i) to) u (λ r. HasValue x numbers spots [] (lowering.extended (extension (kind_of_int from) (kind_of_int to)) t d) d u n (Some r))
     (extends laws bound x numbers spots (extension (kind_of_int from) (kind_of_int to)) t d u n (V.Num i) (converted (V.Num i) to) ready holds is
     (nums.conversions from to (V.Num i) typed (first-false U.PointerBytes (is_piece (V.Num i) && not (size_of_kind to == 1)) [] none).0) refl))

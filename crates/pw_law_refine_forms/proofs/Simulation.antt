@@ -9,6 +9,7 @@ use Rattle.pw_cmean.specs.Typed.{IfGives}
 use Rattle.pw_run.specs.Runs.{End}
 use Rattle.pw_run_languages.specs.FlowRun.{Machine, Step, On, steps}
 use Rattle.pw_law_refine.specs.Activations.{graphs}
+use Rattle.pw_law_refine.specs.Matching.{Shows}
 use Rattle.pw_law_refine.specs.Meeting.{Reaches, Stops, Meets}
 use Rattle.pw_law_refine_forms.proofs.Laws.{Laws}
 
@@ -26,6 +27,10 @@ stops-later laws w end m t s k c r = record {
   comes = comes-on laws w k r.count m t _ c r.comes;
   shows = r.shows;
 }
+
+-- a machine that has shown what the state has, seen from one that comes before it
+far-later : Laws → (w : World) (m t : Machine) (s : State) (k : ℕ) → Comes w k m t → Reaches (graphs w) t (Shows w s) → Reaches (graphs w) m (Shows w s)
+far-later laws w m t s k c r = record { count = k + r.count; machine = r.machine; comes = comes-on laws w k r.count m t _ c r.comes; holds = r.holds }
 
 -- a machine that comes to another meets what that one meets
 pub meets-later : {A : Type 0} → Laws → (w : World) (n : ℕ) (m t : Machine) (k : ℕ) (o : Outcome A) (Q : A → State → Machine → Type 0)
@@ -45,7 +50,7 @@ meets-later laws w n m t k (Ends source.Bound s) Q c r = record {
 }
 meets-later laws w n m t k (Ends source.StackFull s) Q c r = stops-later laws w _ m t s k c r
 meets-later laws w n m t k (Ends (source.Exit status) s) Q c r = stops-later laws w _ m t s k c r
-meets-later laws w n m t k (Ends (source.Undefined o home token) s) Q c r = tt
+meets-later laws w n m t k (Ends (source.Undefined o home token) s) Q c r = far-later laws w m t s k c r
 meets-later laws w n m t k (Ends source.Wrong s) Q c r = tt
 
 -- in order: what comes behind a value is met from where the machine has come with it
@@ -57,7 +62,7 @@ meets-then laws w n m (Gives a s) next Q R r f = meets-later laws w n m r.machin
 meets-then laws w n m (Ends source.Bound s) next Q R r f = r
 meets-then laws w n m (Ends source.StackFull s) next Q R r f = r
 meets-then laws w n m (Ends (source.Exit status) s) next Q R r f = r
-meets-then laws w n m (Ends (source.Undefined o home token) s) next Q R r f = tt
+meets-then laws w n m (Ends (source.Undefined o home token) s) next Q R r f = r
 meets-then laws w n m (Ends source.Wrong s) next Q R r f = tt
 
 -- what holds there may be less
@@ -67,7 +72,7 @@ meets-less w n m (Gives a s) Q R r f = record { count = r.count; machine = r.mac
 meets-less w n m (Ends source.Bound s) Q R r f = r
 meets-less w n m (Ends source.StackFull s) Q R r f = r
 meets-less w n m (Ends (source.Exit status) s) Q R r f = r
-meets-less w n m (Ends (source.Undefined o home token) s) Q R r f = tt
+meets-less w n m (Ends (source.Undefined o home token) s) Q R r f = r
 meets-less w n m (Ends source.Wrong s) Q R r f = tt
 
 -- and the machine may go on from there
@@ -79,7 +84,7 @@ meets-on laws w n m (Gives a s) Q R r f =
 meets-on laws w n m (Ends source.Bound s) Q R r f = r
 meets-on laws w n m (Ends source.StackFull s) Q R r f = r
 meets-on laws w n m (Ends (source.Exit status) s) Q R r f = r
-meets-on laws w n m (Ends (source.Undefined o home token) s) Q R r f = tt
+meets-on laws w n m (Ends (source.Undefined o home token) s) Q R r f = r
 meets-on laws w n m (Ends source.Wrong s) Q R r f = tt
 
 -- with what is known of what is given
@@ -89,7 +94,7 @@ meets-typed w n m P (Gives a s) Q r p = record { count = r.count; machine = r.ma
 meets-typed w n m P (Ends source.Bound s) Q r p = r
 meets-typed w n m P (Ends source.StackFull s) Q r p = r
 meets-typed w n m P (Ends (source.Exit status) s) Q r p = r
-meets-typed w n m P (Ends (source.Undefined o home token) s) Q r p = tt
+meets-typed w n m P (Ends (source.Undefined o home token) s) Q r p = r
 meets-typed w n m P (Ends source.Wrong s) Q r p = tt
 
 -- where the machine is already
@@ -97,22 +102,27 @@ pub meets-here : {A : Type 0} (w : World) (n : ℕ) (m : Machine) (a : A) (s : S
 unfolding steps
 meets-here w n m a s Q h = record { count = 0; machine = m; comes = refl; holds = h }
 
+-- where an operation is undefined, the machine has shown what the state has
+pub shown-here : (w : World) (m : Machine) (s : State) → Shows w s m → Reaches (graphs w) m (Shows w s)
+unfolding steps
+shown-here w m s h = record { count = 0; machine = m; comes = refl; holds = h }
+
 -- behind a judgement the step is none of the operations without meaning
 pub judged : {B : Type 0} (w : World) (n : ℕ) (m : Machine) (at : Site) (findings : List Finding) (next : Act B) (s : State) (R : B → State → Machine → Type 0)
-    → (least findings ≡ None → Meets w n m (next s) R) → Meets w n m ((judge at findings >>= λ done. next) s) R
+    → Shows w s m → (least findings ≡ None → Meets w n m (next s) R) → Meets w n m ((judge at findings >>= λ done. next) s) R
 unfolding judge told undefined give stop ◌>>=◌ go_on
-judged {B} w n m at findings next s R f = by_test (least findings) refl
+judged {B} w n m at findings next s R shows f = by_test (least findings) refl
   where
     by_test : (r : Option Undef) → least findings ≡ r → Meets w n m ((told at r >>= λ done. next) s) R
     by_test None e = f e
-    by_test (Some o) e = tt
+    by_test (Some o) e = shown-here w m s shows
 
 -- with what comes behind it
 pub judged-then : {B C : Type 0} (w : World) (n : ℕ) (m : Machine) (at : Site) (findings : List Finding) (mid : Act B) (next : B → Act C) (s : State) (R : C → State → Machine → Type 0)
-    → (least findings ≡ None → Meets w n m ((mid >>= next) s) R) → Meets w n m (((judge at findings >>= λ done. mid) >>= next) s) R
+    → Shows w s m → (least findings ≡ None → Meets w n m ((mid >>= next) s) R) → Meets w n m (((judge at findings >>= λ done. mid) >>= next) s) R
 unfolding judge told undefined give stop ◌>>=◌ go_on
-judged-then {B} {C} w n m at findings mid next s R f = by_test (least findings) refl
+judged-then {B} {C} w n m at findings mid next s R shows f = by_test (least findings) refl
   where
     by_test : (r : Option Undef) → least findings ≡ r → Meets w n m (((told at r >>= λ done. mid) >>= next) s) R
     by_test None e = f e
-    by_test (Some o) e = tt
+    by_test (Some o) e = shown-here w m s shows

@@ -167,7 +167,7 @@ stepped laws nums bound t so own la target x numbers spots c u u1 n n1 place (V.
     let old-stands : Stands spots2 (V.Num a) (value_in n2.frame (temp_of old)) =
     subst (λ (r : Value). Stands spots2 (V.Num a) r) (sym (stay (temp_of old) (omega (arith, old-temp, old-later)))) (laws.stands spots1 spots2 (V.Num a) (value_in n1.frame (temp_of old)) g.done.later.lasts.more (operand-stands spots1 (V.Num a) old.temp n1 h.stands)) in
     let act : Act Value = λ r. update (env_of x numbers) t (Int own) (Int work) place o (Int K.Int) (V.Num a) (V.Num 1) r in
-    judged-then x.world bound n1 at (U.PointerBytes when (is_piece (V.Num a) && not (size_of_kind work == 1)) ∷ []) _ _ u1 R (λ none.
+    judged-then x.world bound n1 at (U.PointerBytes when (is_piece (V.Num a) && not (size_of_kind work == 1)) ∷ []) _ _ u1 R h.done.later.related.matches.shows (λ none.
     subst (λ (w : Value). Meets x.world bound n1 ((update (env_of x numbers) t (Int own) (Int work) place o (Int K.Int) w (V.Num 1) >>= λ new. give (step_result so (V.Num a) new)) u1) R) (sym (word-number work a promo word))
     (meets-later laws x.world bound n1 n2 r1.count ((act >>= λ new. give (step_result so (V.Num a) new)) u1) R r1.comes
     (meets-then laws x.world bound n2 (act u1) (λ new. give (step_result so (V.Num a) new)) (λ new. HasValue x numbers spots2 la z one.code u1 n2 (Some new)) R
@@ -194,14 +194,14 @@ stepped laws nums bound t so own la target x numbers spots c u u1 n n1 place (V.
 stepped laws nums bound t so own la target x numbers spots c u u1 n n1 place (V.Piece q i) active ready suits covers led st apart holds word h =
     let at = site (env_of x numbers) t in
     let work = promoted own in
-    judged-then x.world bound n1 at (U.PointerBytes when (is_piece (V.Piece q i) && not (size_of_kind work == 1)) ∷ []) _ _ u1 _ (λ none.
+    judged-then x.world bound n1 at (U.PointerBytes when (is_piece (V.Piece q i) && not (size_of_kind work == 1)) ∷ []) _ _ u1 _ h.done.later.related.matches.shows (λ none.
     absurd (true≢false (subst (λ (z : ℕ). (true && not (z == 1)) ≡ false) (promoted-size work (promoted-twice own)) (first-false U.PointerBytes (is_piece (V.Piece q i) && not (size_of_kind work == 1)) [] none).0)))
 stepped laws nums bound t so own la target x numbers spots c u u1 n n1 place V.Undefined active ready suits covers led st apart holds word h =
-    judged-then x.world bound n1 (site (env_of x numbers) t) (U.PointerBytes when (is_piece V.Undefined && not (size_of_kind (promoted own) == 1)) ∷ []) _ _ u1 _ (λ none. tt)
+    judged-then x.world bound n1 (site (env_of x numbers) t) (U.PointerBytes when (is_piece V.Undefined && not (size_of_kind (promoted own) == 1)) ∷ []) _ _ u1 _ h.done.later.related.matches.shows (λ none. tt)
 stepped laws nums bound t so own la target x numbers spots c u u1 n n1 place V.Null active ready suits covers led st apart holds word h =
-    judged-then x.world bound n1 (site (env_of x numbers) t) (U.PointerBytes when (is_piece V.Null && not (size_of_kind (promoted own) == 1)) ∷ []) _ _ u1 _ (λ none. tt)
+    judged-then x.world bound n1 (site (env_of x numbers) t) (U.PointerBytes when (is_piece V.Null && not (size_of_kind (promoted own) == 1)) ∷ []) _ _ u1 _ h.done.later.related.matches.shows (λ none. tt)
 stepped laws nums bound t so own la target x numbers spots c u u1 n n1 place (V.At q) active ready suits covers led st apart holds word h =
-    judged-then x.world bound n1 (site (env_of x numbers) t) (U.PointerBytes when (is_piece (V.At q) && not (size_of_kind (promoted own) == 1)) ∷ []) _ _ u1 _ (λ none. tt)
+    judged-then x.world bound n1 (site (env_of x numbers) t) (U.PointerBytes when (is_piece (V.At q) && not (size_of_kind (promoted own) == 1)) ∷ []) _ _ u1 _ h.done.later.related.matches.shows (λ none. tt)
 
 step-rest :
     Laws → NumberLaws → (bound t : ℕ) (so : StepOperator) (own : IntKind) (la : List ℕ) (target : Target) (x : Activation) (numbers : Numbers) (spots : List Spot) (c : Code) (u : State) (n : Machine) (place : Value)

@@ -24,6 +24,7 @@ use Rattle.pw_run_languages.specs.FlowRun as run
 use Rattle.pw_run_languages.specs.FlowRun.{Machine, Step, On, value_in, steps}
 use Rattle.pw_law_refine.specs.Standing.{Spot, Stands}
 use Rattle.pw_law_refine.specs.Activations.{Activation, Numbers, graphs, graph_of}
+use Rattle.pw_law_refine.specs.Matching.{Shows}
 use Rattle.pw_law_refine.specs.Containing.{ContainsCode}
 use Rattle.pw_law_refine.specs.Meeting.{Reaches, Meets}
 use Rattle.pw_law_refine.specs.Expressions.{IsReady, HasValue, ResultStands}
@@ -318,17 +319,17 @@ sub-does s a size i to ha hi ht e = λ objects f. ap (λ (j : ℕ). Some (V.At (
 -- a pointer that moves nowhere
 stays-put :
     (bound : ℕ) (x : Activation) (at : Site) (records : List RecordValue) (left : QType) (sign : ℤ → ℤ) (kind : IntKind) (v w : Value) (u : State) (m : Machine) (R : Option Value → State → Machine → Type 0)
-    → ((objects : List Object) (z : ℤ) → (moved objects v z ≡ None) ⊎ (is_piece w ≡ true))
+    → Shows x.world u m → ((objects : List Object) (z : ℤ) → (moved objects v z ≡ None) ⊎ (is_piece w ≡ true))
     → Meets x.world bound m ((advance_elements at records left sign v kind w >>= λ result. give (Some result)) u) R
 unfolding advance_elements objects_now look need give stop wrong ◌>>=◌ go_on
-stays-put bound x at records left sign kind v w u m R none = by_layout (layout_of records (type_of left))
+stays-put bound x at records left sign kind v w u m R shows none = by_layout (layout_of records (type_of left))
   where
     by_layout : (r : Option Layout)
         → Meets x.world bound m (((need r >>= λ layout. (objects_now >>= λ objects. judge at (U.EndedObject when is_ended objects v ∷ U.PointerArithmetic when is_none (moved objects v (sign (unwrap_or (integer kind w) (pos 0) *ℤ pos layout.size))) ∷ U.PointerBytes when is_piece w ∷ []) >>= λ done. need (moved objects v (sign (unwrap_or (integer kind w) (pos 0) *ℤ pos layout.size))))) >>= λ result. give (Some result)) u) R
     by_layout None = tt
     by_layout (Some layout) =
         let z = sign (unwrap_or (integer kind w) (pos 0) *ℤ pos layout.size) in
-        judged-then x.world bound m at (U.EndedObject when is_ended u.objects v ∷ U.PointerArithmetic when is_none (moved u.objects v z) ∷ U.PointerBytes when is_piece w ∷ []) (need (moved u.objects v z)) (λ result. give (Some result)) u R (λ fine.
+        judged-then x.world bound m at (U.EndedObject when is_ended u.objects v ∷ U.PointerArithmetic when is_none (moved u.objects v z) ∷ U.PointerBytes when is_piece w ∷ []) (need (moved u.objects v z)) (λ result. give (Some result)) u R shows (λ fine.
         elim (none u.objects z) [
           | inl e ↦ subst (λ (r : Option Value). Meets x.world bound m ((need r >>= λ result. give (Some result)) u) R) (sym e) tt
           | inr e ↦ absurd (true≢false (sym e ∙ no-piece u.objects v w z fine))
@@ -368,17 +369,17 @@ elements laws bound x numbers spots at k sign ty constant volatile kind p q d (V
         let size-is : bytes_of x.home.tree.records ty ≡ layout.size = ap (λ (r : Option Layout). unwrap_or (option_map (λ (l : Layout). l.size) r) 0) e in
         let z = sign ((if is_signed_kind kind then cast_signed w32 a else pos a) *ℤ pos layout.size) in
         subst (λ (n : ℕ). Meets x.world bound m (((judge at (U.EndedObject when is_ended u.objects place ∷ U.PointerArithmetic when is_none (moved u.objects place z) ∷ U.PointerBytes when is_piece (V.Num a) ∷ []) >>= λ done. need (moved u.objects place z)) >>= λ result. give (Some result)) u) (HasValue x numbers spots [] (moved_by k n p q d) d u m)) (sym size-is)
-        (judged-then x.world bound m at (U.EndedObject when is_ended u.objects place ∷ U.PointerArithmetic when is_none (moved u.objects place z) ∷ U.PointerBytes when is_piece (V.Num a) ∷ []) (need (moved u.objects place z)) (λ result. give (Some result)) u (HasValue x numbers spots [] (moved_by k layout.size p q d) d u m) (λ none.
+        (judged-then x.world bound m at (U.EndedObject when is_ended u.objects place ∷ U.PointerArithmetic when is_none (moved u.objects place z) ∷ U.PointerBytes when is_piece (V.Num a) ∷ []) (need (moved u.objects place z)) (λ result. give (Some result)) u (HasValue x numbers spots [] (moved_by k layout.size p q d) d u m) both.ready.related.matches.shows (λ none.
         by_moved layout (lives u.objects o i (V.Num a) z none) (subst (λ (n : ℕ). ContainsCode (graph_of x) (moved_by k n p q d).code) size-is holds) (moved u.objects place z) refl))
 elements laws bound x numbers spots at k sign ty constant volatile kind p q d (V.At (P.Object o i)) (V.Piece r j) u m does given-p given-q tv tw both holds =
-    stays-put bound x at x.home.tree.records (Qualified ty constant volatile) sign kind (V.At (P.Object o i)) (V.Piece r j) u m (HasValue x numbers spots [] (moved_by k (bytes_of x.home.tree.records ty) p q d) d u m) (λ objects z. inr refl)
+    stays-put bound x at x.home.tree.records (Qualified ty constant volatile) sign kind (V.At (P.Object o i)) (V.Piece r j) u m (HasValue x numbers spots [] (moved_by k (bytes_of x.home.tree.records ty) p q d) d u m) both.ready.related.matches.shows (λ objects z. inr refl)
 elements laws bound x numbers spots at k sign ty constant volatile kind p q d (V.At (P.Object o i)) V.Undefined u m does given-p given-q tv tw both holds = absurd tw
 elements laws bound x numbers spots at k sign ty constant volatile kind p q d (V.At (P.Object o i)) V.Null u m does given-p given-q tv tw both holds = absurd tw
 elements laws bound x numbers spots at k sign ty constant volatile kind p q d (V.At (P.Object o i)) (V.At r) u m does given-p given-q tv tw both holds = absurd tw
 elements laws bound x numbers spots at k sign ty constant volatile kind p q d (V.At (P.Function f)) w u m does given-p given-q tv tw both holds =
-    stays-put bound x at x.home.tree.records (Qualified ty constant volatile) sign kind (V.At (P.Function f)) w u m (HasValue x numbers spots [] (moved_by k (bytes_of x.home.tree.records ty) p q d) d u m) (λ objects z. inl refl)
+    stays-put bound x at x.home.tree.records (Qualified ty constant volatile) sign kind (V.At (P.Function f)) w u m (HasValue x numbers spots [] (moved_by k (bytes_of x.home.tree.records ty) p q d) d u m) both.ready.related.matches.shows (λ objects z. inl refl)
 elements laws bound x numbers spots at k sign ty constant volatile kind p q d V.Null w u m does given-p given-q tv tw both holds =
-    stays-put bound x at x.home.tree.records (Qualified ty constant volatile) sign kind V.Null w u m (HasValue x numbers spots [] (moved_by k (bytes_of x.home.tree.records ty) p q d) d u m) (λ objects z. inl refl)
+    stays-put bound x at x.home.tree.records (Qualified ty constant volatile) sign kind V.Null w u m (HasValue x numbers spots [] (moved_by k (bytes_of x.home.tree.records ty) p q d) d u m) both.ready.related.matches.shows (λ objects z. inl refl)
 elements laws bound x numbers spots at k sign ty constant volatile kind p q d V.Undefined w u m does given-p given-q tv tw both holds = absurd tv
 elements laws bound x numbers spots at k sign ty constant volatile kind p q d (V.Num n) w u m does given-p given-q tv tw both holds = absurd tv
 elements laws bound x numbers spots at k sign ty constant volatile kind p q d (V.Piece r j) w u m does given-p given-q tv tw both holds = absurd tv

@@ -68,7 +68,7 @@ zero-then laws bound x numbers spots d at t v s m next R holds ready given st f 
     let same : value_in r.machine.frame t ≡ value_in m.frame t = h.done.temps t given (λ k e. none-in k (_ ≢ _) e) in
     meets-later laws x.world bound m r.machine r.count ((truth at v >>= next) s) R r.comes
     (meets-then laws x.world bound r.machine (truth at v s) next (λ holds u n. Meets x.world bound n (next holds u) R) R
-    (truth-meets bound x h.done.later.spots at v (value_in r.machine.frame t) s r.machine (λ holds u n. Meets x.world bound n (next holds u) R) h.done.later.related.matches.memory
+    (truth-meets bound x h.done.later.spots at v (value_in r.machine.frame t) s r.machine (λ holds u n. Meets x.world bound n (next holds u) R) h.done.later.related.matches.shows h.done.later.related.matches.memory
     (subst (λ (u : Value). Stands h.done.later.spots v u) (sym same) (laws.stands spots h.done.later.spots v (value_in m.frame t) h.done.later.lasts.more st))
     (λ holds truth. f r.machine h holds truth))
     (λ holds u n q. q))

@@ -59,7 +59,7 @@ ends-behind x bound m o (Gives a t) Q R q f = record { count = q.count; machine 
 ends-behind x bound m o (Ends source.Bound t) Q R q f = q
 ends-behind x bound m o (Ends source.StackFull t) Q R q f = q
 ends-behind x bound m o (Ends (source.Exit status) t) Q R q f = q
-ends-behind x bound m o (Ends (source.Undefined operation home token) t) Q R q f = tt
+ends-behind x bound m o (Ends (source.Undefined operation home token) t) Q R q f = q
 ends-behind x bound m o (Ends source.Wrong t) Q R q f = tt
 
 -- ---- several locals
@@ -154,7 +154,7 @@ meets-as x bound m (Gives a t) Q R q f = record { count = q.count; machine = q.m
 meets-as x bound m (Ends source.Bound t) Q R q f = q
 meets-as x bound m (Ends source.StackFull t) Q R q f = q
 meets-as x bound m (Ends (source.Exit status) t) Q R q f = q
-meets-as x bound m (Ends (source.Undefined operation home token) t) Q R q f = tt
+meets-as x bound m (Ends (source.Undefined operation home token) t) Q R q f = q
 meets-as x bound m (Ends source.Wrong t) Q R q f = tt
 
 pub locals-keep : SlotLaws → (bound : ℕ) → LocalsKeep bound

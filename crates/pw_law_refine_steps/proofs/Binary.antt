@@ -36,7 +36,7 @@ use Rattle.pw_law_refine.specs.Containing.{ContainsCode}
 use Rattle.pw_law_refine.specs.Meeting.{Reaches, Meets}
 use Rattle.pw_law_refine.specs.Expressions.{assigned_in, assigned_in_all, IsReady, IsDone, HasValue, HasResult, ExpressionKeeps}
 use Rattle.pw_law_refine_steps.specs.Operations.{operated}
-use Rattle.pw_law_refine_steps.proofs.Simulation.{meets-then, meets-less}
+use Rattle.pw_law_refine_steps.proofs.Simulation.{meets-then, meets-less, shown-here}
 use Rattle.pw_law_refine_steps.proofs.Lasting.{stands-later}
 use Rattle.pw_law_refine_steps.proofs.Fresh.{temp_below}
 use Rattle.pw_law_refine_steps.proofs.Forms.{CodeLaws, before-fresh, fresh-reaches, done-then, ready-then}
@@ -191,9 +191,9 @@ applies bound x numbers spots at records o (Int j) (Int k) p q d (V.Num a) (V.Nu
     by_outcome (Ok i) e =
         two-reach x numbers spots o (is_signed_kind j) p q a b i d u n both.ready holds both.first both.second
         (operators o (is_signed_kind j) a b i (number-word (Int j) a f) (number-word (Int k) b g) e)
-    by_outcome (Err Overflow) e = tt
-    by_outcome (Err ZeroDivisor) e = tt
-    by_outcome (Err ShiftCount) e = tt
+    by_outcome (Err Overflow) e = shown-here x.world n u both.ready.related.matches.shows
+    by_outcome (Err ZeroDivisor) e = shown-here x.world n u both.ready.related.matches.shows
+    by_outcome (Err ShiftCount) e = shown-here x.world n u both.ready.related.matches.shows
 applies bound x numbers spots at records o (Int j) (Int k) p q d v w u n ints f g both holds = tt
 applies bound x numbers spots at records o left right p q d v w u n ints f g both holds = absurd ints
 

@@ -33,7 +33,7 @@ use Rattle.pw_law_refine.specs.Containing.{ContainsCode}
 use Rattle.pw_law_refine.specs.Meeting.{Reaches, Meets}
 use Rattle.pw_law_refine.specs.Expressions.{assigned_in, IsReady, HasValue, HasResult, ExpressionKeeps}
 use Rattle.pw_law_refine_steps.specs.Operations.{extended_by}
-use Rattle.pw_law_refine_steps.proofs.Simulation.{meets-then}
+use Rattle.pw_law_refine_steps.proofs.Simulation.{meets-then, shown-here}
 use Rattle.pw_law_refine_steps.proofs.Forms.{CodeLaws, before-fresh, fresh-reaches, done-then, ready-then}
 use Rattle.pw_law_refine_steps.proofs.Unary.{TypesHold, meets-typed, operand-stands}
 use Rattle.pw_law_refine_steps.proofs.Conversions.{conversions, size-one, stays}
@@ -146,15 +146,15 @@ casts bound x numbers spots a c s u m n at from Void r laws ready holds fits q =
   comes = refl;
   holds = record { done = q.0.done; behind = q.0.behind; stands = tt };
 }
-casts bound x numbers spots a c s u m n at from (Int to) None laws ready holds fits q = tt
-casts bound x numbers spots a c s u m n at from (Pointer to) None laws ready holds fits q = tt
+casts bound x numbers spots a c s u m n at from (Int to) None laws ready holds fits q = shown-here x.world n u q.0.done.later.related.matches.shows
+casts bound x numbers spots a c s u m n at from (Pointer to) None laws ready holds fits q = shown-here x.world n u q.0.done.later.related.matches.shows
 casts bound x numbers spots a c s u m n at (Int from) (Int to) (Some v) laws ready holds fits q =
     by_test (is_piece v && not (size_of_kind to == 1)) refl
   where
     by_test : (b : Bool) → (is_piece v && not (size_of_kind to == 1)) ≡ b
         → Meets x.world bound n (((told at (if b then Some (lesser U.PointerBytes None) else None) >>= λ done. give (converted v to)) >>= λ w. give (Some w)) u)
         (HasValue x numbers spots (assigned_in a) (cast_to (Int to) (Int from) (lower (home_of x) a c)) c s m)
-    by_test true e = tt
+    by_test true e = shown-here x.world n u q.0.done.later.related.matches.shows
     by_test false e = to_integer bound x numbers spots a c s u m n at from to v laws ready holds q e
 casts bound x numbers spots a c s u m n at (Int from) (Pointer to) (Some v) laws ready holds fits q =
     to_pointer bound x numbers spots a c s u m n at to v q.0

@@ -1,12 +1,13 @@
 -- How promises are put together: what is met from a machine is met from each that comes to it.
-use Rattle.std.proofs.Common.{◌≡◌, ℕ, ◌+◌, ◌≤◌, ap, ◌∙◌, arith}
+use Rattle.std.proofs.Common.{◌≡◌, ℕ, ◌+◌, ◌≤◌, refl, ap, ◌∙◌, arith}
 use Rattle.pw_cmean.specs.Worlds.{World}
 use Rattle.pw_cmean.specs.Acts as source
 use Rattle.pw_cmean.specs.Acts.{State, Outcome, Gives, Ends, Act, go_on}
 use Rattle.pw_run.specs.Runs.{End}
 use Rattle.pw_law_source.specs.FromRunLanguages.FlowRun.{Machine, Step, On, steps}
 use Rattle.pw_law_refine.specs.Activations.{graphs}
-use Rattle.pw_law_refine.specs.Meeting.{Stops, Counts, Meets}
+use Rattle.pw_law_refine.specs.Matching.{Shows}
+use Rattle.pw_law_refine.specs.Meeting.{Reaches, Stops, Counts, Meets}
 use Rattle.pw_law_refine_steps.proofs.Steps.{steps-more, events-rise}
 
 -- the machine m comes to the machine t by k steps
@@ -23,6 +24,10 @@ stops-later w end m t s k c r = record {
   comes = comes-on w k r.count m t _ c r.comes;
   shows = r.shows;
 }
+
+-- a machine that has shown what the state has, seen from one that comes before it
+far-later : (w : World) (m t : Machine) (s : State) (k : ℕ) → Comes w k m t → Reaches (graphs w) t (Shows w s) → Reaches (graphs w) m (Shows w s)
+far-later w m t s k c r = record { count = k + r.count; machine = r.machine; comes = comes-on w k r.count m t _ c r.comes; holds = r.holds }
 
 -- by so many events between them
 counts-later : (w : World) (n more : ℕ) (m t : Machine) (s : State) (k : ℕ) → Comes w k m t → m.events + more ≤ t.events → Counts w n t s → Counts w (n + more) m s
@@ -46,7 +51,7 @@ meets-after w n more m t k (Gives a s) Q c h r = record {
 meets-after w n more m t k (Ends source.Bound s) Q c h r = counts-later w n more m t s k c h r
 meets-after w n more m t k (Ends source.StackFull s) Q c h r = stops-later w _ m t s k c r
 meets-after w n more m t k (Ends (source.Exit status) s) Q c h r = stops-later w _ m t s k c r
-meets-after w n more m t k (Ends (source.Undefined o home token) s) Q c h r = tt
+meets-after w n more m t k (Ends (source.Undefined o home token) s) Q c h r = far-later w m t s k c r
 meets-after w n more m t k (Ends source.Wrong s) Q c h r = tt
 
 pub meets-later : {A : Type 0} (w : World) (n : ℕ) (m t : Machine) (k : ℕ) (o : Outcome A) (Q : A → State → Machine → Type 0)
@@ -61,7 +66,7 @@ meets-later w n m t k (Ends source.Bound s) Q c r = record {
 }
 meets-later w n m t k (Ends source.StackFull s) Q c r = stops-later w _ m t s k c r
 meets-later w n m t k (Ends (source.Exit status) s) Q c r = stops-later w _ m t s k c r
-meets-later w n m t k (Ends (source.Undefined o home token) s) Q c r = tt
+meets-later w n m t k (Ends (source.Undefined o home token) s) Q c r = far-later w m t s k c r
 meets-later w n m t k (Ends source.Wrong s) Q c r = tt
 
 -- in order: what comes behind a value is met from where the machine has come with it
@@ -73,7 +78,7 @@ meets-then w n m (Gives a s) next Q R r f = meets-later w n m r.machine r.count 
 meets-then w n m (Ends source.Bound s) next Q R r f = r
 meets-then w n m (Ends source.StackFull s) next Q R r f = r
 meets-then w n m (Ends (source.Exit status) s) next Q R r f = r
-meets-then w n m (Ends (source.Undefined o home token) s) next Q R r f = tt
+meets-then w n m (Ends (source.Undefined o home token) s) next Q R r f = r
 meets-then w n m (Ends source.Wrong s) next Q R r f = tt
 
 -- what holds there may be less
@@ -83,5 +88,10 @@ meets-less w n m (Gives a s) Q R r f = record { count = r.count; machine = r.mac
 meets-less w n m (Ends source.Bound s) Q R r f = r
 meets-less w n m (Ends source.StackFull s) Q R r f = r
 meets-less w n m (Ends (source.Exit status) s) Q R r f = r
-meets-less w n m (Ends (source.Undefined o home token) s) Q R r f = tt
+meets-less w n m (Ends (source.Undefined o home token) s) Q R r f = r
 meets-less w n m (Ends source.Wrong s) Q R r f = tt
+
+-- where an operation is undefined, the machine has shown what the state has
+pub shown-here : (w : World) (m : Machine) (s : State) → Shows w s m → Reaches (graphs w) m (Shows w s)
+unfolding steps
+shown-here w m s h = record { count = 0; machine = m; comes = refl; holds = h }

@@ -1,5 +1,5 @@
 -- From calls that keep their promise to programs that keep their runs: `$start` calls `main`, and `exit` with the result.
-use Rattle.std.proofs.Common.{◌≡◌, ℕ, zero, suc, ◌+◌, ◌%◌, Bool, true, false, true≢false, nat_lt, ltb-false, le-ltb, if◌then◌else◌, Option, Some, None, List, [], ◌∷◌, refl, ap, sym, ◌∙◌, arith}
+use Rattle.std.proofs.Common.{◌≡◌, ◌≢◌, ℕ, zero, suc, ◌+◌, ◌%◌, Bool, true, false, true≢false, nat_lt, ltb-false, le-ltb, if◌then◌else◌, Option, Some, None, List, [], ◌∷◌, refl, ap, sym, ◌∙◌, arith}
 use Rattle.pw_value.specs.declared.value.Value.{Value}
 use Rattle.pw_value.specs.declared.value.Value.TheVariants as V
 use Rattle.pw_value.specs.ProgramNames.{main_name, exit_name, start_name}
@@ -8,7 +8,7 @@ use Rattle.pw_cmean.specs.Worlds.{World, Callable, Body, Defined, Library, funct
 use Rattle.pw_cmean.specs.Acts as source
 use Rattle.pw_cmean.specs.Acts.{State, Ending, Outcome, Gives, Ends, give, stop, go_on, ◌>>=◌, branch, look, need, undefined, wrong}
 use Rattle.pw_cmean.specs.Evaluation.{bounded_call, take_room, call_body, call}
-use Rattle.pw_cmean.specs.SourceRun.{run_body, callee, calls, finish, run_main, start_state}
+use Rattle.pw_cmean.specs.SourceRun.{run_body, callee, calls, finish, run_main, start_state, seen, source_run}
 use Rattle.pw_run.specs.Runs as run
 use Rattle.pw_run.specs.Runs.{Stage, Met}
 use Rattle.pw_law_source.specs.FromRunLanguages.Commands.{command}
@@ -16,10 +16,11 @@ use Rattle.pw_law_source.specs.FromRunLanguages.Programs as flows
 use Rattle.pw_law_source.specs.FromRunLanguages.Programs.{AreBytes, NoneForLibrary}
 use Rattle.pw_law_source.specs.FromRunLanguages.FlowRun as flow
 use Rattle.pw_law_source.specs.FromRunLanguages.FlowRun.{Machine, Step, On, Stopped, steps, goes_on, start, flow_run}
-use Rattle.pw_law_source.specs.Source.{staged, source_stages}
+use Rattle.pw_law_source.specs.Source.{staged_within, source_progress}
 use Rattle.pw_law_source.specs.Lowering.{MomentKept}
 use Rattle.pw_law_refine.specs.Lowerable.{IsLowerableWorld}
 use Rattle.pw_law_refine.specs.Activations.{graphs}
+use Rattle.pw_law_refine.specs.Matching.{Shows}
 use Rattle.pw_law_refine.specs.Meeting.{Reaches, Stops, Counts, Meets}
 use Rattle.pw_law_refine.specs.Calls.{HasReturned, CallsKeep}
 use Rattle.pw_law_refine_steps.proofs.Steps.{steps-more}
@@ -49,6 +50,37 @@ stops w input end m s starts c = record {
   same = c.shows;
   counted = omega arith;
 }
+
+-- and what it comes to where an operation is undefined
+reaches : (w : World) (input : List ℕ) (m : Machine) (s : State) → start (graphs w) input ≡ On m
+    → Reaches (graphs w) m (Shows w s) → Met (MomentKept (graphs w)) (run.Going (record { output = s.out; read = s.read; events = 0; log = s.moments })) (flow_run (graphs w) input)
+unfolding flow_run
+reaches w input m s starts c = record {
+  at = c.count;
+  view = flow.shown c.machine;
+  is = ap (λ (a : Step). flow.staged (steps (graphs w) c.count a)) starts ∙ ap flow.staged c.comes;
+  same = record { output = c.holds.output; read = c.holds.read; log = c.holds.log };
+  counted = omega arith;
+}
+
+-- the stages of the source's run, but where it does what no accepted program does, that promises nothing
+abbrev noted : ℕ → Outcome (Unit {0}) → Stage source.Moment
+noted n (Gives done s) = staged_within n (Gives done s)
+noted n (Ends source.Bound s) = staged_within n (Ends source.Bound s)
+noted n (Ends source.StackFull s) = staged_within n (Ends source.StackFull s)
+noted n (Ends (source.Exit status) s) = staged_within n (Ends (source.Exit status) s)
+noted n (Ends (source.Undefined o h t) s) = staged_within n (Ends (source.Undefined o h t) s)
+noted n (Ends source.Wrong s) = run.Wrong
+
+-- it never does
+never_so : (w : World) (input : List ℕ) (n : ℕ) (o : Outcome (Unit {0})) → (seen o).end ≢ source.Wrong
+    → Met (MomentKept (graphs w)) (noted n o) (flow_run (graphs w) input) → Met (MomentKept (graphs w)) (staged_within n o) (flow_run (graphs w) input)
+never_so w input n (Gives done s) never h = h
+never_so w input n (Ends source.Bound s) never h = h
+never_so w input n (Ends source.StackFull s) never h = h
+never_so w input n (Ends (source.Exit status) s) never h = h
+never_so w input n (Ends (source.Undefined o at t) s) never h = h
+never_so w input n (Ends source.Wrong s) never h = absurd (never refl)
 
 -- ---- what a call needs of the stack
 
@@ -136,14 +168,15 @@ finishes : (w : World) (input : List ℕ) (n : ℕ) (spots : List _) (f : Callab
     → start (graphs w) input ≡ On (at_start w input)
     → nat_lt w.stack (w.frame_of exit_name + (w.frame_of start_name + 0)) ≡ false
     → Reaches (graphs w) (at_start w input) (HasReturned w spots (Some 0) (op.Call None exit_name (0 ∷ []) ∷ []) (start_state w.program input) (at_start w input) result s)
-    → Met (MomentKept (graphs w)) (staged n (finish f.body result s)) (flow_run (graphs w) input)
+    → Met (MomentKept (graphs w)) (noted n (finish f.body result s)) (flow_run (graphs w) input)
 unfolding finish stop undefined wrong
 finishes w input n spots f (Some (V.Num k)) s starts fits reach =
     stops w input (run.Ended (k % 256)) (at_start w input) s starts (ends_with w input spots k s (at_start w input) (at_start w input) fits reach)
 finishes w input n spots f None s starts fits reach = by_body f.body
   where
-    by_body : (body : Body) → Met (MomentKept (graphs w)) (staged n (finish body None s)) (flow_run (graphs w) input)
-    by_body (Defined home g) = tt
+    by_body : (body : Body) → Met (MomentKept (graphs w)) (noted n (finish body None s)) (flow_run (graphs w) input)
+    by_body (Defined home g) =
+        reaches w input (at_start w input) s starts (record { count = reach.count; machine = reach.machine; comes = reach.comes; holds = reach.holds.matches.shows })
     by_body (Library g) = tt
 finishes w input n spots f (Some V.Undefined) s starts fits reach = tt
 finishes w input n spots f (Some V.Null) s starts fits reach = tt
@@ -154,7 +187,7 @@ goes : (w : World) (input : List ℕ) (n : ℕ) (spots : List _) (f : Callable) 
     → NoneForLibrary w.frame_of → start (graphs w) input ≡ On (at_start w input)
     → call w (calls w n) f [] (start_state w.program input) ≡ o
     → Meets w n (at_start w input) o (HasReturned w spots (Some 0) (op.Call None exit_name (0 ∷ []) ∷ []) (start_state w.program input) (at_start w input))
-    → Met (MomentKept (graphs w)) (staged n (go_on o (λ result. finish f.body result))) (flow_run (graphs w) input)
+    → Met (MomentKept (graphs w)) (noted n (go_on o (λ result. finish f.body result))) (flow_run (graphs w) input)
 unfolding go_on
 goes w input n spots f (Gives result s) none starts is meets =
     finishes w input n spots f result s starts
@@ -162,7 +195,7 @@ goes w input n spots f (Gives result s) none starts is meets =
 goes w input n spots f (Ends source.Bound s) none starts is meets = counts w input n (at_start w input) s starts refl meets
 goes w input n spots f (Ends source.StackFull s) none starts is meets = stops w input run.StackFull (at_start w input) s starts meets
 goes w input n spots f (Ends (source.Exit status) s) none starts is meets = stops w input (run.Ended status) (at_start w input) s starts meets
-goes w input n spots f (Ends (source.Undefined o h t) s) none starts is meets = tt
+goes w input n spots f (Ends (source.Undefined o h t) s) none starts is meets = reaches w input (at_start w input) s starts meets
 goes w input n spots f (Ends source.Wrong s) none starts is meets = tt
 
 -- the first step of `$start`
@@ -173,7 +206,7 @@ calls_main w input = refl
 
 runs_main : (w : World) (input : List ℕ) (n : ℕ) (o : Option Callable)
     → ((n : ℕ) → CallsKeep n) → IsLowerableWorld w → StartMatches w input → function_named w.program main_name ≡ o
-    → Met (MomentKept (graphs w)) (staged n ((need o >>= λ main. (call w (calls w n) main [] >>= λ result. finish main.body result)) (start_state w.program input))) (flow_run (graphs w) input)
+    → Met (MomentKept (graphs w)) (noted n ((need o >>= λ main. (call w (calls w n) main [] >>= λ result. finish main.body result)) (start_state w.program input))) (flow_run (graphs w) input)
 unfolding need give stop wrong ◌>>=◌ go_on
 runs_main w input n None keep lowerable st is = tt
 runs_main w input n (Some f) keep lowerable st is =
@@ -181,8 +214,8 @@ runs_main w input n (Some f) keep lowerable st is =
     (keep n w st.spots main_name f [] [] (Some 0) (op.Call None exit_name (0 ∷ []) ∷ []) (start_state w.program input) (at_start w input) lowerable is (st.main f is) tt st.matches (calls_main w input))
 
 pub programs_keep : ((n : ℕ) → CallsKeep n) → StartsMatch → ProgramsKeepRuns
-unfolding source_stages run_main
-programs_keep keep starts p frame_of stack input lowerable none bytes = λ n.
+unfolding source_progress source_run run_main
+programs_keep keep starts p frame_of stack input lowerable none bytes never = λ n.
     let w : World = record { program = p; frame_of = frame_of; stack = stack } in
     let l : IsLowerableWorld w = record { program = lowerable; library = none } in
-    runs_main w input n (function_named p main_name) keep l (starts w input l bytes) refl
+    never_so w input n (run_main w n (start_state p input)) (never n) (runs_main w input n (function_named p main_name) keep l (starts w input l bytes) refl)

@@ -31,7 +31,7 @@ use Rattle.pw_law_refine.specs.Activations.{Activation, IsActivation, Numbers, g
 use Rattle.pw_law_refine.specs.Containing.{ContainsCode}
 use Rattle.pw_law_refine.specs.Meeting.{Reaches, Meets}
 use Rattle.pw_law_refine.specs.Expressions.{assigned_in, IsReady, HasValue, HasResult, ResultStands, ExpressionKeeps}
-use Rattle.pw_law_refine_steps.proofs.Simulation.{meets-then}
+use Rattle.pw_law_refine_steps.proofs.Simulation.{meets-then, shown-here}
 use Rattle.pw_law_refine_steps.proofs.Forms.{CodeLaws, before-fresh, fresh-reaches, done-then, ready-then}
 use Rattle.pw_law_refine_steps.proofs.Words.{minus}
 use Rattle.pw_law_refine_steps.proofs.Conversions.{word-of}
@@ -50,7 +50,7 @@ meets-typed w n m P (Gives a s) Q r p = record { count = r.count; machine = r.ma
 meets-typed w n m P (Ends source.Bound s) Q r p = r
 meets-typed w n m P (Ends source.StackFull s) Q r p = r
 meets-typed w n m P (Ends (source.Exit status) s) Q r p = r
-meets-typed w n m P (Ends (source.Undefined o home token) s) Q r p = tt
+meets-typed w n m P (Ends (source.Undefined o home token) s) Q r p = r
 meets-typed w n m P (Ends source.Wrong s) Q r p = tt
 
 -- a number of a type is a word
@@ -82,7 +82,7 @@ operand bound x numbers spots a c s m at types active typed bytes meets =
   where
     by_result : (r : Option Value) (u : State) (n : Machine) → HasResult x numbers spots a c s m r u n × IsResultOf (type_in a) r
         → Meets x.world bound n (used at r u) (HasOperand x numbers spots a c s m)
-    by_result None u n q = tt
+    by_result None u n q = shown-here x.world n u q.0.done.later.related.matches.shows
     by_result (Some v) u n q = record { count = 0; machine = n; comes = refl; holds = q }
 
 -- the value stands in the operand's temporary
@@ -134,9 +134,9 @@ negates bound t ty a x numbers spots c s m laws ready holds at (Int kind) (V.Num
         → Meets x.world bound n ((outcome_of at r >>= λ r. give (Some r)) u) (HasResult x numbers spots (Node t ty (Unary Minus a)) c s m)
     by_outcome (Ok j) e =
         on-number x numbers spots a c s u m n Neg k j laws ready q.0 holds (minus (is_signed_kind kind) k j (number-word (type_in a) k q.1) e)
-    by_outcome (Err Overflow) e = tt
-    by_outcome (Err ZeroDivisor) e = tt
-    by_outcome (Err ShiftCount) e = tt
+    by_outcome (Err Overflow) e = shown-here x.world n u q.0.done.later.related.matches.shows
+    by_outcome (Err ZeroDivisor) e = shown-here x.world n u q.0.done.later.related.matches.shows
+    by_outcome (Err ShiftCount) e = shown-here x.world n u q.0.done.later.related.matches.shows
 negates bound t ty a x numbers spots c s m laws ready holds at own v u n q = tt
 
 pub minus-keeps : (bound t : ℕ) (ty : QType) (a : Expression) → CodeLaws → TypesHold bound → ExpressionKeeps bound a → ExpressionKeeps bound (Node t ty (Unary Minus a))

@@ -23,7 +23,7 @@ use Rattle.pw_law_refine.specs.Meeting.{Meets}
 use Rattle.pw_law_refine.specs.Expressions.{HasResult, ExpressionsKeep}
 use Rattle.pw_law_refine.specs.Statements.{IsMet, IsLeaving, GoesOut, HasLeft, LieBehind, StatementKeeps}
 use Rattle.pw_law_refine_stmts.proofs.Laws.{Laws}
-use Rattle.pw_law_refine_stmts.proofs.Simulation.{meets-then, meets-typed, meets-here}
+use Rattle.pw_law_refine_stmts.proofs.Simulation.{meets-then, meets-typed, meets-here, shown-here}
 use Rattle.pw_law_refine_stmts.proofs.Jumps.{before-cut, behind-end, later-same}
 use Rattle.pw_law_refine_stmts.proofs.CodeBefore.{before-reserve}
 use Rattle.pw_law_refine_stmts.proofs.Names.{none-in}
@@ -42,7 +42,7 @@ valued laws bound a x numbers spots c s m keeps =
   where
     by_result : (r : Option Value) (u : State) (n : Machine) → HasResult x numbers spots a c s m r u n
         → Meets x.world bound n (used (site (env_of x numbers) (token_of a)) r u) (λ v. HasResult x numbers spots a c s m (Some v))
-    by_result None u n q = tt
+    by_result None u n q = shown-here x.world n u q.done.later.related.matches.shows
     by_result (Some v) u n q = meets-here x.world bound n v u (λ w. HasResult x numbers spots a c s m (Some w)) q
 
 -- and of its type
@@ -60,7 +60,7 @@ typed-value laws bound a x numbers spots c s m active typed bytes keeps =
     by_result
   where
     by_result : (r : Option Value) (u : State) (n : Machine) → HasResult x numbers spots a c s m r u n × IsResultOf (type_in a) r → Meets x.world bound n (used (site (env_of x numbers) (token_of a)) r u) (λ v u2 n2. HasResult x numbers spots a c s m (Some v) u2 n2 × IsValueOf (type_in a) v)
-    by_result None u n q = tt
+    by_result None u n q = shown-here x.world n u q.0.done.later.related.matches.shows
     by_result (Some v) u n q = meets-here x.world bound n v u (λ w u2 n2. HasResult x numbers spots a c s m (Some w) u2 n2 × IsValueOf (type_in a) w) q
 
 -- ---- the statements

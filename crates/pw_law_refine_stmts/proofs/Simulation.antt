@@ -8,6 +8,7 @@ use Rattle.pw_cmean.specs.Typed.{IfGives}
 use Rattle.pw_run.specs.Runs.{End}
 use Rattle.pw_run_languages.specs.FlowRun.{Machine, Step, On, steps}
 use Rattle.pw_law_refine.specs.Activations.{graphs}
+use Rattle.pw_law_refine.specs.Matching.{Shows}
 use Rattle.pw_law_refine.specs.Meeting.{Reaches, Stops, Meets}
 use Rattle.pw_law_refine_stmts.proofs.Laws.{Laws}
 
@@ -25,6 +26,10 @@ stops-later laws w end m t s k c r = record {
   comes = comes-on laws w k r.count m t _ c r.comes;
   shows = r.shows;
 }
+
+-- a machine that has shown what the state has, seen from one that comes before it
+far-later : Laws → (w : World) (m t : Machine) (s : State) (k : ℕ) → Comes w k m t → Reaches (graphs w) t (Shows w s) → Reaches (graphs w) m (Shows w s)
+far-later laws w m t s k c r = record { count = k + r.count; machine = r.machine; comes = comes-on laws w k r.count m t _ c r.comes; holds = r.holds }
 
 -- a machine that comes to another meets what that one meets
 pub meets-later : {A : Type 0} → Laws → (w : World) (n : ℕ) (m t : Machine) (k : ℕ) (o : Outcome A) (Q : A → State → Machine → Type 0)
@@ -44,7 +49,7 @@ meets-later laws w n m t k (Ends source.Bound s) Q c r = record {
 }
 meets-later laws w n m t k (Ends source.StackFull s) Q c r = stops-later laws w _ m t s k c r
 meets-later laws w n m t k (Ends (source.Exit status) s) Q c r = stops-later laws w _ m t s k c r
-meets-later laws w n m t k (Ends (source.Undefined o home token) s) Q c r = tt
+meets-later laws w n m t k (Ends (source.Undefined o home token) s) Q c r = far-later laws w m t s k c r
 meets-later laws w n m t k (Ends source.Wrong s) Q c r = tt
 
 -- where an event was counted on the way
@@ -65,7 +70,7 @@ meets-counted laws w n m t k (Ends source.Bound s) Q c h r = record {
 }
 meets-counted laws w n m t k (Ends source.StackFull s) Q c h r = stops-later laws w _ m t s k c r
 meets-counted laws w n m t k (Ends (source.Exit status) s) Q c h r = stops-later laws w _ m t s k c r
-meets-counted laws w n m t k (Ends (source.Undefined o home token) s) Q c h r = tt
+meets-counted laws w n m t k (Ends (source.Undefined o home token) s) Q c h r = far-later laws w m t s k c r
 meets-counted laws w n m t k (Ends source.Wrong s) Q c h r = tt
 
 -- in order: what comes behind a value is met from where the machine has come with it
@@ -77,7 +82,7 @@ meets-then laws w n m (Gives a s) next Q R r f = meets-later laws w n m r.machin
 meets-then laws w n m (Ends source.Bound s) next Q R r f = r
 meets-then laws w n m (Ends source.StackFull s) next Q R r f = r
 meets-then laws w n m (Ends (source.Exit status) s) next Q R r f = r
-meets-then laws w n m (Ends (source.Undefined o home token) s) next Q R r f = tt
+meets-then laws w n m (Ends (source.Undefined o home token) s) next Q R r f = r
 meets-then laws w n m (Ends source.Wrong s) next Q R r f = tt
 
 -- the same, where what comes behind may be met at a bound that is one less, if an event was counted before it
@@ -95,7 +100,7 @@ meets-then-less {A} {B} laws w n m (Gives a s) next Q R r f = by_case (f a s r.m
 meets-then-less laws w n m (Ends source.Bound s) next Q R r f = r
 meets-then-less laws w n m (Ends source.StackFull s) next Q R r f = r
 meets-then-less laws w n m (Ends (source.Exit status) s) next Q R r f = r
-meets-then-less laws w n m (Ends (source.Undefined o home token) s) next Q R r f = tt
+meets-then-less laws w n m (Ends (source.Undefined o home token) s) next Q R r f = r
 meets-then-less laws w n m (Ends source.Wrong s) next Q R r f = tt
 
 -- what holds there may be less
@@ -105,7 +110,7 @@ meets-less w n m (Gives a s) Q R r f = record { count = r.count; machine = r.mac
 meets-less w n m (Ends source.Bound s) Q R r f = r
 meets-less w n m (Ends source.StackFull s) Q R r f = r
 meets-less w n m (Ends (source.Exit status) s) Q R r f = r
-meets-less w n m (Ends (source.Undefined o home token) s) Q R r f = tt
+meets-less w n m (Ends (source.Undefined o home token) s) Q R r f = r
 meets-less w n m (Ends source.Wrong s) Q R r f = tt
 
 -- and the machine may go on from there
@@ -117,7 +122,7 @@ meets-on laws w n m (Gives a s) Q R r f =
 meets-on laws w n m (Ends source.Bound s) Q R r f = r
 meets-on laws w n m (Ends source.StackFull s) Q R r f = r
 meets-on laws w n m (Ends (source.Exit status) s) Q R r f = r
-meets-on laws w n m (Ends (source.Undefined o home token) s) Q R r f = tt
+meets-on laws w n m (Ends (source.Undefined o home token) s) Q R r f = r
 meets-on laws w n m (Ends source.Wrong s) Q R r f = tt
 
 -- a machine to which another comes
@@ -132,7 +137,7 @@ meets-path w n m (Gives a s) Q r = record { count = r.count; machine = r.machine
 meets-path w n m (Ends source.Bound s) Q r = r
 meets-path w n m (Ends source.StackFull s) Q r = r
 meets-path w n m (Ends (source.Exit status) s) Q r = r
-meets-path w n m (Ends (source.Undefined o home token) s) Q r = tt
+meets-path w n m (Ends (source.Undefined o home token) s) Q r = r
 meets-path w n m (Ends source.Wrong s) Q r = tt
 
 -- with what is known of what is given
@@ -142,10 +147,15 @@ meets-typed w n m P (Gives a s) Q r p = record { count = r.count; machine = r.ma
 meets-typed w n m P (Ends source.Bound s) Q r p = r
 meets-typed w n m P (Ends source.StackFull s) Q r p = r
 meets-typed w n m P (Ends (source.Exit status) s) Q r p = r
-meets-typed w n m P (Ends (source.Undefined o home token) s) Q r p = tt
+meets-typed w n m P (Ends (source.Undefined o home token) s) Q r p = r
 meets-typed w n m P (Ends source.Wrong s) Q r p = tt
 
 -- where the machine is already
 pub meets-here : {A : Type 0} (w : World) (n : ℕ) (m : Machine) (a : A) (s : State) (Q : A → State → Machine → Type 0) → Q a s m → Meets w n m (Gives a s) Q
 unfolding steps
 meets-here w n m a s Q h = record { count = 0; machine = m; comes = refl; holds = h }
+
+-- where an operation is undefined, the machine has shown what the state has
+pub shown-here : (w : World) (m : Machine) (s : State) → Shows w s m → Reaches (graphs w) m (Shows w s)
+unfolding steps
+shown-here w m s h = record { count = 0; machine = m; comes = refl; holds = h }

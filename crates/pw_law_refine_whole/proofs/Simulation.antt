@@ -6,6 +6,7 @@ use Rattle.pw_cmean.specs.Acts.{State, Outcome, Gives, Ends, Act, go_on}
 use Rattle.pw_run.specs.Runs.{End}
 use Rattle.pw_run_languages.specs.FlowRun.{Machine, Step, On, steps}
 use Rattle.pw_law_refine.specs.Activations.{graphs}
+use Rattle.pw_law_refine.specs.Matching.{Shows}
 use Rattle.pw_law_refine.specs.Meeting.{Reaches, Stops, Meets}
 use Rattle.pw_law_refine_whole.proofs.Laws.{Laws}
 
@@ -19,6 +20,10 @@ comes-on laws w k j m t s c d = laws.more (graphs w) k j (On m) ∙ ap (λ (a : 
 stops-later : Laws → (w : World) (end : End) (m t : Machine) (s : State) (k : ℕ) → Comes w k m t → Stops w end t s → Stops w end m s
 stops-later laws w end m t s k c r = record { count = k + r.count; machine = r.machine; comes = comes-on laws w k r.count m t _ c r.comes; shows = r.shows }
 
+-- a machine that has shown what the state has, seen from one that comes before it
+far-later : Laws → (w : World) (m t : Machine) (s : State) (k : ℕ) → Comes w k m t → Reaches (graphs w) t (Shows w s) → Reaches (graphs w) m (Shows w s)
+far-later laws w m t s k c r = record { count = k + r.count; machine = r.machine; comes = comes-on laws w k r.count m t _ c r.comes; holds = r.holds }
+
 meets-later : {A : Type 0} → Laws → (w : World) (n : ℕ) (m t : Machine) (k : ℕ) (o : Outcome A) (Q : A → State → Machine → Type 0)
     → Comes w k m t → Meets w n t o Q → Meets w n m o Q
 meets-later laws w n m t k (Gives a s) Q c r = record { count = k + r.count; machine = r.machine; comes = comes-on laws w k r.count m t _ c r.comes; holds = r.holds }
@@ -31,7 +36,7 @@ meets-later laws w n m t k (Ends source.Bound s) Q c r = record {
 }
 meets-later laws w n m t k (Ends source.StackFull s) Q c r = stops-later laws w _ m t s k c r
 meets-later laws w n m t k (Ends (source.Exit status) s) Q c r = stops-later laws w _ m t s k c r
-meets-later laws w n m t k (Ends (source.Undefined o home token) s) Q c r = tt
+meets-later laws w n m t k (Ends (source.Undefined o home token) s) Q c r = far-later laws w m t s k c r
 meets-later laws w n m t k (Ends source.Wrong s) Q c r = tt
 
 -- where the machine comes to one of which this holds, and goes on from there
@@ -48,7 +53,7 @@ meets-then laws w n m (Gives a s) next Q R r f = meets-later laws w n m r.machin
 meets-then laws w n m (Ends source.Bound s) next Q R r f = r
 meets-then laws w n m (Ends source.StackFull s) next Q R r f = r
 meets-then laws w n m (Ends (source.Exit status) s) next Q R r f = r
-meets-then laws w n m (Ends (source.Undefined o home token) s) next Q R r f = tt
+meets-then laws w n m (Ends (source.Undefined o home token) s) next Q R r f = r
 meets-then laws w n m (Ends source.Wrong s) next Q R r f = tt
 
 -- what holds there may be less
@@ -58,7 +63,7 @@ meets-less w n m (Gives a s) Q R r f = record { count = r.count; machine = r.mac
 meets-less w n m (Ends source.Bound s) Q R r f = r
 meets-less w n m (Ends source.StackFull s) Q R r f = r
 meets-less w n m (Ends (source.Exit status) s) Q R r f = r
-meets-less w n m (Ends (source.Undefined o home token) s) Q R r f = tt
+meets-less w n m (Ends (source.Undefined o home token) s) Q R r f = r
 meets-less w n m (Ends source.Wrong s) Q R r f = tt
 
 -- where the machine is already

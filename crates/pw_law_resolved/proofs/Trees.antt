@@ -32,7 +32,6 @@ module _ (N : (ℕ → Type 0) → Expression → Type 0) (I : (ℕ → Type 0) 
 
   mutual
     pub statement_of : (scope : ℕ → Type 0) (x : Statement) → InScopes N I scope x → InStatement A J x → InStatement B K x → InScopes M L scope x
-    statement_of scope (T.Empty t) s a b = tt
     statement_of scope (T.Evaluate t e) s a b = give scope e s a b
     statement_of scope (T.Block t first count initialisers items) s a b =
         (initialisers_of (with_range first count scope) initialisers s.0 a.0 b.0, statements_of (with_range first count scope) items s.1 a.1 b.1)
@@ -43,10 +42,8 @@ module _ (N : (ℕ → Type 0) → Expression → Type 0) (I : (ℕ → Type 0) 
         (any_of scope first s.0 a.0 b.0, any_of scope e s.1 a.1 b.1, any_of scope third s.2 a.2 b.2, statement_of scope body s.3 a.3 b.3)
     statement_of scope (T.Switch t e cases default body) s a b = (give scope e s.0 a.0 b.0, statement_of scope body s.1 a.1 b.1)
     statement_of scope (T.Label t labels body) s a b = statement_of scope body s a b
-    statement_of scope (T.Goto t l) s a b = tt
-    statement_of scope (T.Break t) s a b = tt
-    statement_of scope (T.Continue t) s a b = tt
     statement_of scope (T.Return t e) s a b = any_of scope e s a b
+    statement_of scope _ s a b = tt
 
     statements_of : (scope : ℕ → Type 0) (all : Statements) → AllInScopes N I scope all → InStatements A J all → InStatements B K all → AllInScopes M L scope all
     statements_of scope NoStatement s a b = tt

@@ -1,14 +1,13 @@
 -- Functions that are active are those of the program, each somewhere in one of its blocks.
-use Rattle.std.proofs.Common.{◌≡◌, ℕ, zero, suc, ◌+◌, ◌-◌, ◌%◌, ◌^◌, ◌<◌, ◌==◌, ◌&&◌, ◌||◌, Bool, true, false, if◌then◌else◌, List, [], ◌∷◌, ◌++◌, length, map, replicate, refl, sym, ap, subst, ◌∙◌, append_assoc, arith, inl, inr}
-use Rattle.std.specs.Prelude.{Contains, Option, Some, None, slice_get, slice_set, slice_index_or}
+use Rattle.std.proofs.Common.{◌≡◌, ℕ, zero, suc, ◌+◌, ◌-◌, ◌%◌, ◌^◌, ◌<◌, ◌==◌, ◌||◌, Bool, true, false, if◌then◌else◌, List, [], ◌∷◌, ◌++◌, length, refl, sym, subst, ◌∙◌, append_assoc, arith, inl}
+use Rattle.std.specs.Prelude.{Contains, Option, Some, None, slice_get}
 use Rattle.std.specs.List.{AllByRecursion}
 use Rattle.std.specs.Str.{bytes_eq}
 use Rattle.pw_value.specs.declared.value.Kind.{Kind}
 use Rattle.pw_value.specs.declared.value.Byte.{Byte}
 use Rattle.pw_value.specs.declared.value.Value.{Value}
 use Rattle.pw_value.specs.declared.value.Value.TheVariants.{Undefined, Num, Null, At, Piece}
-use Rattle.pw_value.specs.declared.value.Pointer.TheVariants as P
-use Rattle.pw_value.specs.ProgramNames.{start_name, exit_name, getchar_name, putchar_name}
+use Rattle.pw_value.specs.ProgramNames.{start_name, getchar_name, putchar_name}
 use Rattle.pw_value.specs.Objects.{Object}
 use Rattle.pw_db.specs.declared.database.Web.{Web}
 use Rattle.pw_flow.specs.declared.flow.Op.{Op}
@@ -23,14 +22,16 @@ use Rattle.pw_webflow.specs.ValidWebs.{IsWebOp, IsWebBlock, IsWebFn}
 use Rattle.pw_alloc.specs.declared.located.Located.{Located}
 use Rattle.pw_run.specs.Runs as run
 use Rattle.pw_run_languages.specs.Traces.{Event, Called, Refused, Returned, Loaded, Stored}
-use Rattle.pw_run_languages.specs.Values.{unary, extension, binary, is_somewhere}
-use Rattle.pw_run_languages.specs.Memory.{look, look_in, poke, poke_in, copy}
-use Rattle.pw_run_languages.specs.Programs.{Program, Library, GetChar, PutChar, Exit, library_at, function_at, shape_of, start_objects}
+use Rattle.pw_run_languages.specs.Values.{binary, is_somewhere}
+use Rattle.pw_run_languages.specs.Memory.{look, poke, copy}
+use Rattle.pw_run_languages.specs.Programs.{Program, Library, GetChar, PutChar, Exit, library_at}
 use Rattle.pw_run_languages.specs.Commands as command
-use Rattle.pw_run_languages.specs.FlowRun.{get_global, put_global, with_slots, end_from}
+use Rattle.pw_run_languages.specs.FlowRun.{get_global, put_global, end_from}
 use Rattle.pw_run_languages.specs.Direction.{with_functions}
-use Rattle.pw_run_languages.specs.PlacedRun.{PlacedProgram, Frame, Machine, Step, On, Stopped, Astray, name_of, function_named, with_register, with_registers, kept, register_at, value_in, with_temp, gives, takes_result, counted, noted, globals_now, is_eligible, noted_if, loads_global, stores_global, is_reserved, changes, exceeds, library_call, library_return, without_scratch, gives_back, calls_library, entered_webs, and_then, enters_webs, leaves, leaves_webs, with_parameters, entered, first_block, begins, calls_defined, calls, jumps, branches, given_back, ends, obeys, does, step, steps, start}
+use Rattle.pw_run_languages.specs.PlacedRun.{PlacedProgram, Frame, Machine, Step, On, Stopped, Astray, name_of, function_named, with_register, with_registers, kept, register_at, value_in, with_temp, gives, takes_result, counted, noted, globals_now, is_eligible, noted_if, loads_global, stores_global, is_reserved, changes, exceeds, library_call, library_return, without_scratch, gives_back, calls_library, entered_webs, and_then, enters_webs, leaves, leaves_webs, with_parameters, entered, first_block, begins, calls_defined, jumps, branches, given_back, ends, obeys, does, step, steps, start}
 use Rattle.pw_files.proofs.Standing.{Has, has_each, has_right, contains_by}
+use Rattle.pw_law_operations.specs.Laws.{StaysInside, HasResult}
+use Rattle.pw_law_operations.proofs.Asking.{stays_inside, results_stand}
 use Rattle.pw_law_select_known.proofs.Lists.{choose, found, get_has}
 use Rattle.pw_law_select_known.specs.Laws.{StandsIn, IsOfProgram, ResultsFit, FunctionsStandInBlocks}
 use Rattle.pw_law_select_known.proofs.Parts.{put_by, stored_by, reads_by, loaded_by, calls_by, goes_to, to_block_by, result_by, returns_by, next_by, begun_at, starts_at_by, starts_by}
@@ -48,44 +49,21 @@ result_fits : (temps : ℕ) (t : Option ℕ) → IsResult temps t → GoesInside
 result_fits temps (Some n) h k e = let same : n ≡ k = cc in omega (arith, h, same)
 result_fits temps None h k e = absurd cc
 
-give_fits : (temps t : ℕ) (v : Option Value) → CommandFits temps (command.give t v)
-give_fits temps t (Some v) = tt
-give_fits temps t None = tt
+-- where a command goes by its result, or calls nothing
+called_fits : (temps : ℕ) (c : command.Command) (t : Option ℕ) → HasResult t c → GoesInside temps t → CommandFits temps c
+called_fits temps (command.Enter u f args) t is h = subst (GoesInside temps) is h
+called_fits temps _ t is h = tt
 
-enter_as_fits : (temps : ℕ) (t : Option ℕ) (shape : List ℕ) (args : List Value) (name own : Option (List ℕ)) → GoesInside temps t → CommandFits temps (command.enter_as t shape args name own)
-enter_as_fits temps t shape args (Some f) (Some own) h = choose (CommandFits temps) (bytes_eq own shape) (command.Enter t f args) command.Fail h tt
-enter_as_fits temps t shape args (Some f) None h = tt
-enter_as_fits temps t shape args None own h = tt
-
-enter_at_fits : (p : Program) (temps : ℕ) (t : Option ℕ) (shape : List ℕ) (args : List Value) (name : Option (List ℕ)) → GoesInside temps t → CommandFits temps (command.enter_at p t shape args name)
-enter_at_fits p temps t shape args (Some f) h = enter_as_fits temps t shape args (Some f) (shape_of p f) h
-enter_at_fits p temps t shape args None h = tt
-
-enter_value_fits : (p : Program) (temps : ℕ) (t : Option ℕ) (v : Value) (shape : List ℕ) (args : List Value) → GoesInside temps t → CommandFits temps (command.enter_value p t v shape args)
-enter_value_fits p temps t (At (P.Function n)) shape args h = enter_at_fits p temps t shape args (function_at p n) h
-enter_value_fits p temps t (At (P.Object o i)) shape args h = tt
-enter_value_fits p temps t Undefined shape args h = tt
-enter_value_fits p temps t (Num n) shape args h = tt
-enter_value_fits p temps t Null shape args h = tt
-enter_value_fits p temps t (Piece x i) shape args h = tt
+quiet_fits : (temps : ℕ) (c : command.Command) → StaysInside c → CommandFits temps c
+quiet_fits temps (command.Enter t f args) stays = absurd stays
+quiet_fits temps _ stays = tt
 
 command_fits : (p : Program) (base temps slots : ℕ) (o : Op) (value : ℕ → Value) → IsOp temps slots o → CommandFits temps (command.command p base o value)
-unfolding command.command
-command_fits p base temps slots (op.Const t n) value h = tt
-command_fits p base temps slots (op.Copy t a) value h = tt
-command_fits p base temps slots (op.Un k t a) value h = give_fits temps t (unary k (value a))
-command_fits p base temps slots (op.Bin k t a b) value h = tt
-command_fits p base temps slots (op.Ext k t a) value h = give_fits temps t (extension k (value a))
-command_fits p base temps slots (op.AddrGlobal t g n) value h = tt
-command_fits p base temps slots (op.AddrSlot t s) value h = tt
-command_fits p base temps slots (op.AddrFn t f) value h = tt
-command_fits p base temps slots (op.LoadG t g k) value h = tt
-command_fits p base temps slots (op.StoreG g a k) value h = tt
-command_fits p base temps slots (op.Load k t a) value h = tt
-command_fits p base temps slots (op.Store k a b) value h = tt
-command_fits p base temps slots (op.Move a b size unit) value h = tt
-command_fits p base temps slots (op.Call t f args) value h = result_fits temps t h.0
-command_fits p base temps slots (op.CallInd t a shape args) value h = enter_value_fits p temps t (value a) shape (map value args) (result_fits temps t h.0)
+command_fits p base temps slots (op.Call t f args) value h =
+    called_fits temps (command.command p base (op.Call t f args) value) t (results_stand p base (op.Call t f args) value) (result_fits temps t h.0)
+command_fits p base temps slots (op.CallInd t a shape args) value h =
+    called_fits temps (command.command p base (op.CallInd t a shape args) value) t (results_stand p base (op.CallInd t a shape args) value) (result_fits temps t h.0)
+command_fits p base temps slots o value h = quiet_fits temps (command.command p base o value) (stays_inside p base o value refl)
 
 -- ---- the run
 

@@ -1,14 +1,13 @@
 -- What operations ask for: values that lead somewhere.
-use Rattle.std.proofs.Common.{◌≡◌, ◌≢◌, ◌⊎◌, ℕ, ◌+◌, ◌^◌, ◌<◌, ◌≤◌, ◌==◌, Bool, List, [], ◌∷◌, length, map, refl, sym, ap, subst, ◌∙◌, arith, inl, inr}
-use Rattle.std.specs.Prelude.{Option, Some, None, Contains}
+use Rattle.std.proofs.Common.{◌≡◌, ◌≢◌, ◌⊎◌, ℕ, ◌+◌, ◌<◌, ◌≤◌, ◌==◌, Bool, List, [], ◌∷◌, length, map, refl, sym, ◌∙◌, arith, inl, inr}
+use Rattle.std.specs.Prelude.{Option, Some, None}
 use Rattle.std.specs.List.{AllByRecursion, position}
 use Rattle.std.specs.Str.{bytes_eq}
 use Rattle.std.proofs.lemmas.Bool.{eq-eqb}
 use Rattle.std.proofs.lemmas.List.Quantifiers.{position-Some}
 use Rattle.std.proofs.lemmas.Slice.Eq.{bytes_eq-Decides}
-use Rattle.pw_value.specs.declared.value.Kind.{Kind}
 use Rattle.pw_value.specs.declared.value.Value.{Value}
-use Rattle.pw_value.specs.declared.value.Value.TheVariants.{Undefined, Num, Null, At, Piece}
+use Rattle.pw_value.specs.declared.value.Value.TheVariants.{At}
 use Rattle.pw_value.specs.declared.value.Pointer.{Pointer}
 use Rattle.pw_value.specs.declared.value.Pointer.TheVariants as P
 use Rattle.pw_files.proofs.Standing.{Has, has_by, has_map_back}
@@ -19,7 +18,7 @@ use Rattle.pw_flow.specs.declared.flow.Op.TheVariants as op
 use Rattle.pw_run_languages.specs.Values.{unary, extension}
 use Rattle.pw_run_languages.specs.Programs.{Program, names_of, globals_of, function_number, function_at, global_number, pointer_to, shape_of}
 use Rattle.pw_run_languages.specs.LawfulPrograms.{IsFunctionName, IsGlobalName}
-use Rattle.pw_run_languages.specs.Commands.{Command, Give, Combine, Look, Poke, Copied, GetGlobal, PutGlobal, Enter, Fail, give, enter_as, enter_at, enter_value, command}
+use Rattle.pw_run_languages.specs.Commands.{Command, Give, Combine, Poke, PutGlobal, Enter, Fail, give, enter_as, enter_at, enter_value, command}
 use Rattle.pw_law_select_known.proofs.Lists.{choose, finds, placed, map_each}
 use Rattle.pw_law_select_states.specs.Pointers.{IsKnown, ValueIsKnown}
 use Rattle.pw_law_select_known.proofs.Values.{KnownIfValue, unary_known, extension_known}
@@ -96,16 +95,11 @@ module _ (p : Program) (count : ℕ) where
   enter_known : (t : Option ℕ) (v : Value) (shape : List ℕ) (args : List Value) → AllByRecursion (ValueIsKnown p count) args
       → CommandIsKnown p count (enter_value p t v shape args)
   enter_known t (At (P.Function n)) shape args all = at_known t shape args (function_at p n) all
-  enter_known t (At (P.Object o i)) shape args all = tt
-  enter_known t Undefined shape args all = tt
-  enter_known t (Num n) shape args all = tt
-  enter_known t Null shape args all = tt
-  enter_known t (Piece x i) shape args all = tt
+  enter_known t _ shape args all = tt
 
   pub command_known : (slots : ℕ) (o : Op) (base : ℕ) (value : ℕ → Value) → length (globals_of p) ≤ count → base + slots ≤ count → OpIsFine p slots o
       → ((t : ℕ) → ValueIsKnown p count (value t)) → CommandIsKnown p count (command p base o value)
   unfolding command
-  command_known slots (op.Const t n) base value low few fine known = tt
   command_known slots (op.Copy t a) base value low few fine known = known a
   command_known slots (op.Un k t a) base value low few fine known = give_known t (unary k (value a)) (unary_known p count k (value a))
   command_known slots (op.Bin k t a b) base value low few fine known = known a
@@ -113,11 +107,9 @@ module _ (p : Program) (count : ℕ) where
   command_known slots (op.AddrGlobal t g n) base value low few fine known = pointer_known p count g n low fine.1 (inr (has_by g (map (λ (x : FlowGlobal). x.name) (globals_of p)) fine.0))
   command_known slots (op.AddrSlot t s) base value low few fine known = let lt : s < slots = fine in (omega (arith, lt, few), omega arith)
   command_known slots (op.AddrFn t f) base value low few fine known = function_known p f (has_by f (names_of p) fine)
-  command_known slots (op.LoadG t g k) base value low few fine known = tt
   command_known slots (op.StoreG g a k) base value low few fine known = known a
-  command_known slots (op.Load k t a) base value low few fine known = tt
   command_known slots (op.Store k a b) base value low few fine known = known b
-  command_known slots (op.Move a b size unit) base value low few fine known = tt
   command_known slots (op.Call t f args) base value low few fine known = map_each (ValueIsKnown p count) value known args
   command_known slots (op.CallInd t a shape args) base value low few fine known =
       enter_known t (value a) shape (map value args) (map_each (ValueIsKnown p count) value known args)
+  command_known slots _ base value low few fine known = tt

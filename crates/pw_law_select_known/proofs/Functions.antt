@@ -1,6 +1,6 @@
 -- Functions whose places serve are of operations that ask for what is there.
-use Rattle.std.proofs.Common.{◌≡◌, ℕ, ◌<◌, List, [], ◌∷◌, length, map, refl, sym, ap, subst, ◌∙◌, arith, inl, inr}
-use Rattle.std.specs.Prelude.{Option, Some, None, Contains}
+use Rattle.std.proofs.Common.{ℕ, List, [], ◌∷◌, length, map, refl, sym, subst, inl, inr}
+use Rattle.std.specs.Prelude.{Option, Some, None}
 use Rattle.std.specs.List.{AllByRecursion}
 use Rattle.pw_files.proofs.Standing.{Has, has_each, each_by, contains_by, has_flat, has_flat_back}
 use Rattle.pw_db.specs.declared.database.Web.{Web}
@@ -13,7 +13,7 @@ use Rattle.pw_flow.specs.declared.flow.Op.{Op}
 use Rattle.pw_flow.specs.declared.flow.Op.TheVariants as op
 use Rattle.pw_flow.specs.ValidFlow.{IsValid, IsFunction, IsBlock, IsOp}
 use Rattle.pw_webflow.specs.declared.web.WebOp.{WebOp}
-use Rattle.pw_webflow.specs.declared.web.WebOp.TheVariants.{Flow, Read, Write}
+use Rattle.pw_webflow.specs.declared.web.WebOp.TheVariants.{Flow}
 use Rattle.pw_webflow.specs.declared.web.WebBlock.{WebBlock}
 use Rattle.pw_webflow.specs.declared.web.WebFn.{WebFn}
 use Rattle.pw_webflow.specs.Direction.{register_of, read_of, write_of, directed, directed_op, directed_block}
@@ -21,7 +21,7 @@ use Rattle.pw_alloc.specs.declared.located.Located.{Located}
 use Rattle.pw_run_languages.specs.Programs.{Program, functions_of}
 use Rattle.pw_run_languages.specs.LawfulPrograms.{IsProgram, NamesRightly, ops_of}
 use Rattle.pw_run_languages.specs.Direction.{directives_of, directed_by, directed_functions}
-use Rattle.pw_run_languages.specs.Serving.{Serves, AllServe}
+use Rattle.pw_run_languages.specs.Serving.{AllServe}
 use Rattle.pw_law_select_known.proofs.Commands.{OpIsFine}
 
 abbrev pub WebOpIsFine : Program → ℕ → WebOp → Type 0
@@ -39,21 +39,10 @@ FunctionsAreFine p functions = AllByRecursion (λ (l : Located). BodyIsFine p l.
 
 module _ (p : Program) where
   op_fine : (temps slots : ℕ) (o : Op) → IsOp temps slots o → NamesRightly p o → OpIsFine p slots o
-  op_fine temps slots (op.Const t n) valid right = tt
-  op_fine temps slots (op.Copy t a) valid right = tt
-  op_fine temps slots (op.Un k t a) valid right = tt
-  op_fine temps slots (op.Bin k t a b) valid right = tt
-  op_fine temps slots (op.Ext k t a) valid right = tt
   op_fine temps slots (op.AddrGlobal t g n) valid right = (right, valid.1)
   op_fine temps slots (op.AddrSlot t s) valid right = valid.1
   op_fine temps slots (op.AddrFn t f) valid right = right
-  op_fine temps slots (op.LoadG t g k) valid right = tt
-  op_fine temps slots (op.StoreG g a k) valid right = tt
-  op_fine temps slots (op.Load k t a) valid right = tt
-  op_fine temps slots (op.Store k a b) valid right = tt
-  op_fine temps slots (op.Move a b size unit) valid right = tt
-  op_fine temps slots (op.Call t f args) valid right = tt
-  op_fine temps slots (op.CallInd t a shape args) valid right = tt
+  op_fine temps slots _ valid right = tt
 
   read_fine : (slots : ℕ) (r : Option ℕ) (t : ℕ) (o : Op) → OpIsFine p slots o → WebOpIsFine p slots (read_of r t o)
   read_fine slots (Some r) t o h = tt
@@ -66,19 +55,7 @@ module _ (p : Program) where
   directed_fine : (slots : ℕ) (webs : List (Web × Role)) (o : Op) → OpIsFine p slots o → WebOpIsFine p slots (directed_op webs o)
   directed_fine slots webs (op.LoadG t g k) h = read_fine slots (register_of webs g) t (op.LoadG t g k) h
   directed_fine slots webs (op.StoreG g a k) h = write_fine slots (register_of webs g) a (op.StoreG g a k) h
-  directed_fine slots webs (op.Const t n) h = h
-  directed_fine slots webs (op.Copy t a) h = h
-  directed_fine slots webs (op.Un k t a) h = h
-  directed_fine slots webs (op.Bin k t a b) h = h
-  directed_fine slots webs (op.Ext k t a) h = h
-  directed_fine slots webs (op.AddrGlobal t g n) h = h
-  directed_fine slots webs (op.AddrSlot t s) h = h
-  directed_fine slots webs (op.AddrFn t f) h = h
-  directed_fine slots webs (op.Load k t a) h = h
-  directed_fine slots webs (op.Store k a b) h = h
-  directed_fine slots webs (op.Move a b size unit) h = h
-  directed_fine slots webs (op.Call t f args) h = h
-  directed_fine slots webs (op.CallInd t a shape args) h = h
+  directed_fine slots webs _ h = h
 
   mapped : {X Y : Type 0} (P : Y → Type 0) (f : X → Y) (xs : List X) → AllByRecursion (λ x. P (f x)) xs → AllByRecursion P (map f xs)
   mapped P f [] all = tt

@@ -1,33 +1,31 @@
 -- What an operation that calls nothing leaves as it is.
-use Rattle.std.proofs.Common.{◌≡◌, ◌≢◌, ℕ, zero, suc, ◌+◌, ◌==◌, ◌&&◌, ◌||◌, Bool, true, false, if◌then◌else◌, List, [], ◌∷◌, ◌++◌, length, refl, sym, ap, subst, ◌∙◌, arith, inl, inr}
-use Rattle.std.specs.Prelude.{not, Option, Some, None, slice_set, slice_index_or}
-use Rattle.std.specs.List.{AllByRecursion}
+use Rattle.std.proofs.Common.{◌≡◌, ℕ, suc, ◌==◌, ◌&&◌, ◌||◌, Bool, true, false, if◌then◌else◌, List, [], ◌∷◌, length, refl, sym, ap, subst, ◌∙◌, inl, inr}
+use Rattle.std.specs.Prelude.{not, Option, Some, None, slice_set}
 use Rattle.std.proofs.lemmas.Bool.{cases_lt, cases_eq}
 use Rattle.std.proofs.lemmas.List.{length-set, get_or-set_same, get_or-set_other, set_past}
 use Rattle.pw_value.specs.declared.value.Kind.{Kind}
 use Rattle.pw_value.specs.declared.value.Value.{Value}
-use Rattle.pw_value.specs.declared.value.Value.TheVariants.{Undefined, Num, Null, At, Piece}
+use Rattle.pw_value.specs.declared.value.Value.TheVariants.{At}
 use Rattle.pw_value.specs.declared.value.Byte.{Byte}
 use Rattle.pw_value.specs.declared.value.Pointer.TheVariants as P
 use Rattle.pw_value.specs.Objects.{Object, no_object, object_at, bytes_from, with_bytes, written}
 use Rattle.pw_value.specs.Values.{encoding}
 use Rattle.pw_db.specs.declared.database.Web.{Web}
 use Rattle.pw_flow.specs.ValidFlow.{kind_size}
-use Rattle.pw_flow.specs.Uses.{op_calls}
-use Rattle.pw_flow.specs.declared.flow.Op.{Op}
-use Rattle.pw_flow.specs.declared.flow.Op.TheVariants as op
 use Rattle.pw_webflow.specs.declared.web.WebOp.{WebOp}
 use Rattle.pw_webflow.specs.declared.web.WebOp.TheVariants.{Flow, Read, Write}
 use Rattle.pw_webflow.specs.WebOutline.{calls}
 use Rattle.pw_alloc.specs.declared.located.Located.{Located}
 use Rattle.pw_run_languages.specs.Traces.{Event, Loaded, Stored}
-use Rattle.pw_run_languages.specs.Values.{unary, extension, binary}
+use Rattle.pw_run_languages.specs.Values.{binary}
 use Rattle.pw_run_languages.specs.Memory.{is_of_kind, is_open, may_stand, is_apart, look, poke_in, poke, copy}
 use Rattle.pw_run_languages.specs.Programs.{Program, global_number}
 use Rattle.pw_run_languages.specs.Commands as command
 use Rattle.pw_run_languages.specs.FlowRun.{is_own_kind, get_global, put_global}
 use Rattle.pw_run_languages.specs.Direction.{with_functions}
-use Rattle.pw_run_languages.specs.PlacedRun.{PlacedProgram, Machine, Step, On, Stopped, Astray, with_register, register_at, value_in, with_temp, gives, is_eligible, noted_if, loads_global, stores_global, is_reserved, changes, enters, leaves, obeys, does}
+use Rattle.pw_run_languages.specs.PlacedRun.{PlacedProgram, Machine, Step, On, Stopped, Astray, with_register, register_at, value_in, with_temp, gives, is_eligible, noted_if, stores_global, is_reserved, changes, enters, leaves, obeys, does}
+use Rattle.pw_law_operations.specs.Laws.{StaysInside}
+use Rattle.pw_law_operations.proofs.Asking.{stays_inside}
 use Rattle.pw_law_select_known.proofs.Lists.{choose}
 use Rattle.pw_law_select_known.proofs.Parts.{put_by, set_by, stored_by, loaded_by}
 use Rattle.pw_law_select_known.specs.Laws.{IsAccess, KeepsShape, OperationsKeepShape, WebsKeepShape}
@@ -86,37 +84,6 @@ set_by_keeps : (k : Kind) (v : Value) (objects : List Object) (o : Option ℕ) �
 set_by_keeps k v objects (Some o) = poke_in_keeps k o 0 v objects
 set_by_keeps k v objects None = tt
 
--- ---- commands that call nothing
-
-abbrev pub IsQuiet : command.Command → Type 0
-IsQuiet (command.Enter t f args) = ⊥
-IsQuiet _ = Unit {0}
-
-give_quiet : (t : ℕ) (v : Option Value) → IsQuiet (command.give t v)
-give_quiet t (Some v) = tt
-give_quiet t None = tt
-
-clash : true ≡ false → ⊥
-clash e = cc
-
-pub command_quiet : (p : Program) (base : ℕ) (o : Op) (value : ℕ → Value) → op_calls o ≡ false → IsQuiet (command.command p base o value)
-unfolding command.command
-command_quiet p base (op.Const t n) value e = tt
-command_quiet p base (op.Copy t a) value e = tt
-command_quiet p base (op.Un k t a) value e = give_quiet t (unary k (value a))
-command_quiet p base (op.Bin k t a b) value e = tt
-command_quiet p base (op.Ext k t a) value e = give_quiet t (extension k (value a))
-command_quiet p base (op.AddrGlobal t g n) value e = tt
-command_quiet p base (op.AddrSlot t s) value e = tt
-command_quiet p base (op.AddrFn t f) value e = tt
-command_quiet p base (op.LoadG t g k) value e = tt
-command_quiet p base (op.StoreG g a k) value e = tt
-command_quiet p base (op.Load k t a) value e = tt
-command_quiet p base (op.Store k a b) value e = tt
-command_quiet p base (op.Move a b size unit) value e = tt
-command_quiet p base (op.Call t f args) value e = absurd (clash e)
-command_quiet p base (op.CallInd t a shape args) value e = absurd (clash e)
-
 -- ---- steps
 
 module _ (p : Program) (fs : List Located) (m : Machine) where
@@ -162,7 +129,7 @@ module _ (p : Program) (fs : List Located) (m : Machine) where
   put_global_keeps g k v =
       choose (IfKeep m.objects) (is_own_kind p g k && is_of_kind k v) (set_by k v m.objects (global_number p g)) None (set_by_keeps k v m.objects (global_number p g)) tt
 
-  obeys_shape : (c : command.Command) → IsQuiet c → ShapeStep (obeys full c m)
+  obeys_shape : (c : command.Command) → StaysInside c → ShapeStep (obeys full c m)
   obeys_shape (command.Give t v) quiet = temp_shape t v m itself
   obeys_shape (command.Combine k t v w) quiet = gives_shape t (binary m.objects k v w) m itself
   obeys_shape (command.Look k t a) quiet = choose ShapeStep (is_reserved full a) Astray (gives t (look k a m.objects) m) tt (gives_shape t (look k a m.objects) m itself)
@@ -177,7 +144,7 @@ module _ (p : Program) (fs : List Located) (m : Machine) where
   obeys_shape command.Fail quiet = tt
 
   does_shape : (o : WebOp) → calls o ≡ false → ShapeStep (does full o m)
-  does_shape (Flow o) e = obeys_shape (command.command p m.frame.base o (value_in m.frame m.registers)) (command_quiet p m.frame.base o (value_in m.frame m.registers) e)
+  does_shape (Flow o) e = obeys_shape (command.command p m.frame.base o (value_in m.frame m.registers)) (stays_inside p m.frame.base o (value_in m.frame m.registers) e)
   does_shape (Read t r) e = temp_shape t (m.registers r) m itself
   does_shape (Write r a) e = record { count = refl; lives = λ o. refl; sizes = λ o. refl; temps = refl; log = []; quiet = tt; noted = refl }
 

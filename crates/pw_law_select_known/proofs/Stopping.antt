@@ -1,7 +1,6 @@
 -- What stops a run is a call.
-use Rattle.std.proofs.Common.{◌≡◌, ◌⊎◌, ℕ, zero, suc, ◌+◌, ◌==◌, ◌||◌, Bool, true, false, if◌then◌else◌, List, [], ◌∷◌, refl, subst, inl, inr}
+use Rattle.std.proofs.Common.{◌≡◌, ℕ, zero, suc, ◌||◌, Bool, true, false, if◌then◌else◌, List, [], ◌∷◌, subst, inl, inr}
 use Rattle.std.specs.Prelude.{Option, Some, None, slice_get}
-use Rattle.pw_value.specs.declared.value.Kind.{Kind}
 use Rattle.pw_value.specs.declared.value.Value.{Value}
 use Rattle.pw_value.specs.declared.value.Value.TheVariants.{Undefined, Num, Null, At, Piece}
 use Rattle.pw_value.specs.Objects.{Object}
@@ -13,7 +12,6 @@ use Rattle.pw_webflow.specs.declared.web.WebOp.TheVariants.{Flow, Read, Write}
 use Rattle.pw_webflow.specs.declared.web.WebBlock.{WebBlock}
 use Rattle.pw_webflow.specs.WebOutline.{calls}
 use Rattle.pw_alloc.specs.declared.located.Located.{Located}
-use Rattle.pw_run.specs.Runs as run
 use Rattle.pw_run_languages.specs.Traces.{Loaded}
 use Rattle.pw_run_languages.specs.Values.{binary, is_somewhere}
 use Rattle.pw_run_languages.specs.Memory.{look, poke, copy}
@@ -22,9 +20,10 @@ use Rattle.pw_run_languages.specs.Commands as command
 use Rattle.pw_run_languages.specs.FlowRun.{get_global, put_global}
 use Rattle.pw_run_languages.specs.Direction.{with_functions}
 use Rattle.pw_run_languages.specs.PlacedRun.{PlacedProgram, Frame, Machine, Step, On, Stopped, Astray, value_in, gives, entered_webs, is_eligible, noted_if, stores_global, is_reserved, changes, and_then, enters, leaves, leaves_webs, jumps, branches, ends, obeys, does}
+use Rattle.pw_law_operations.specs.Laws.{StaysInside}
+use Rattle.pw_law_operations.proofs.Asking.{stays_inside}
 use Rattle.pw_law_select_known.proofs.Lists.{choose}
 use Rattle.pw_law_select_known.proofs.Parts.{stored_by, loaded_by, to_block_by, result_by, returns_by}
-use Rattle.pw_law_select_known.proofs.Shapes.{IsQuiet, command_quiet}
 use Rattle.pw_law_select_known.specs.Laws.{OperationsNeverStop, WebsNeverStop, EndsNeverStop}
 
 abbrev Goes : Step → Type 0
@@ -98,7 +97,7 @@ module _ (p : Program) (fs : List Located) where
 
   -- ---- operations
 
-  obeys_go : (c : command.Command) (m : Machine) → IsQuiet c → Goes (obeys full c m)
+  obeys_go : (c : command.Command) (m : Machine) → StaysInside c → Goes (obeys full c m)
   obeys_go (command.Give t v) m quiet = tt
   obeys_go (command.Combine k t v w) m quiet = gives_go t (binary m.objects k v w) m
   obeys_go (command.Look k t a) m quiet = choose Goes (is_reserved full a) Astray (gives t (look k a m.objects) m) tt (gives_go t (look k a m.objects) m)
@@ -111,7 +110,7 @@ module _ (p : Program) (fs : List Located) where
   obeys_go command.Fail m quiet = tt
 
   does_goes : (o : WebOp) (m : Machine) → calls o ≡ false → Goes (does full o m)
-  does_goes (Flow o) m e = obeys_go (command.command p m.frame.base o (value_in m.frame m.registers)) m (command_quiet p m.frame.base o (value_in m.frame m.registers) e)
+  does_goes (Flow o) m e = obeys_go (command.command p m.frame.base o (value_in m.frame m.registers)) m (stays_inside p m.frame.base o (value_in m.frame m.registers) e)
   does_goes (Read t r) m e = tt
   does_goes (Write r a) m e = tt
 

@@ -26,7 +26,7 @@ use Rattle.pw_inst.specs.declared.line.Line.TheVariants.{Plain}
 use Rattle.pw_delay.specs.declared.items.Item.{Item}
 use Rattle.pw_delay.specs.Items.{slotted}
 use Rattle.pw_webflow.specs.declared.web.WebOp.{WebOp}
-use Rattle.pw_webflow.specs.declared.web.WebOp.TheVariants.{Flow, Read, Write}
+use Rattle.pw_webflow.specs.declared.web.WebOp.TheVariants.{Flow}
 use Rattle.pw_run.specs.Runs.{AreAlike}
 use Rattle.pw_run_languages.specs.Traces.{Event, Loaded, Stored, EventAlike}
 use Rattle.pw_run_languages.specs.Programs.{Program, global_number}
@@ -661,39 +661,11 @@ named_globals_follow laws more_laws (Flow (op.LoadG t g k)) h p functions w scra
     load_global_follows laws more_laws p functions w scratch site m n l before more t g k at is
 named_globals_follow laws more_laws (Flow (op.StoreG g a k)) h p functions w scratch site m n l before more at is =
     store_global_follows laws more_laws p functions w scratch site m n l before more g a k at is
-named_globals_follow laws more_laws (Flow (op.Const t k)) h p functions w scratch site m n l before more at is = absurd h
-named_globals_follow laws more_laws (Flow (op.Copy t a)) h p functions w scratch site m n l before more at is = absurd h
-named_globals_follow laws more_laws (Flow (op.Un k t a)) h p functions w scratch site m n l before more at is = absurd h
-named_globals_follow laws more_laws (Flow (op.Bin k t a b)) h p functions w scratch site m n l before more at is = absurd h
-named_globals_follow laws more_laws (Flow (op.Ext k t a)) h p functions w scratch site m n l before more at is = absurd h
-named_globals_follow laws more_laws (Flow (op.AddrGlobal t g k)) h p functions w scratch site m n l before more at is = absurd h
-named_globals_follow laws more_laws (Flow (op.AddrSlot t s)) h p functions w scratch site m n l before more at is = absurd h
-named_globals_follow laws more_laws (Flow (op.AddrFn t f)) h p functions w scratch site m n l before more at is = absurd h
-named_globals_follow laws more_laws (Flow (op.Load k t a)) h p functions w scratch site m n l before more at is = absurd h
-named_globals_follow laws more_laws (Flow (op.Store k a b)) h p functions w scratch site m n l before more at is = absurd h
-named_globals_follow laws more_laws (Flow (op.Move a b size unit)) h p functions w scratch site m n l before more at is = absurd h
-named_globals_follow laws more_laws (Flow (op.Call t f args)) h p functions w scratch site m n l before more at is = absurd h
-named_globals_follow laws more_laws (Flow (op.CallInd t a shape args)) h p functions w scratch site m n l before more at is = absurd h
-named_globals_follow laws more_laws (Read t r) h p functions w scratch site m n l before more at is = absurd h
-named_globals_follow laws more_laws (Write r a) h p functions w scratch site m n l before more at is = absurd h
+named_globals_follow laws more_laws _ h p functions w scratch site m n l before more at is = absurd h
 
 pub accesses_follow : Laws → ScalarLaws → (o : WebOp) → GoesByPointer o → OperationFollows o
 accesses_follow laws more_laws (Flow (op.Load k t a)) h p functions w scratch site m n l before more at is =
     load_follows laws more_laws p functions w scratch site m n l before more k t a at is
 accesses_follow laws more_laws (Flow (op.Store k a b)) h p functions w scratch site m n l before more at is =
     store_follows laws more_laws p functions w scratch site m n l before more k a b at is
-accesses_follow laws more_laws (Flow (op.LoadG t g k)) h p functions w scratch site m n l before more at is = absurd h
-accesses_follow laws more_laws (Flow (op.StoreG g a k)) h p functions w scratch site m n l before more at is = absurd h
-accesses_follow laws more_laws (Flow (op.Const t k)) h p functions w scratch site m n l before more at is = absurd h
-accesses_follow laws more_laws (Flow (op.Copy t a)) h p functions w scratch site m n l before more at is = absurd h
-accesses_follow laws more_laws (Flow (op.Un k t a)) h p functions w scratch site m n l before more at is = absurd h
-accesses_follow laws more_laws (Flow (op.Bin k t a b)) h p functions w scratch site m n l before more at is = absurd h
-accesses_follow laws more_laws (Flow (op.Ext k t a)) h p functions w scratch site m n l before more at is = absurd h
-accesses_follow laws more_laws (Flow (op.AddrGlobal t g k)) h p functions w scratch site m n l before more at is = absurd h
-accesses_follow laws more_laws (Flow (op.AddrSlot t s)) h p functions w scratch site m n l before more at is = absurd h
-accesses_follow laws more_laws (Flow (op.AddrFn t f)) h p functions w scratch site m n l before more at is = absurd h
-accesses_follow laws more_laws (Flow (op.Move a b size unit)) h p functions w scratch site m n l before more at is = absurd h
-accesses_follow laws more_laws (Flow (op.Call t f args)) h p functions w scratch site m n l before more at is = absurd h
-accesses_follow laws more_laws (Flow (op.CallInd t a shape args)) h p functions w scratch site m n l before more at is = absurd h
-accesses_follow laws more_laws (Read t r) h p functions w scratch site m n l before more at is = absurd h
-accesses_follow laws more_laws (Write r a) h p functions w scratch site m n l before more at is = absurd h
+accesses_follow laws more_laws _ h p functions w scratch site m n l before more at is = absurd h

@@ -3,7 +3,7 @@ use Rattle.std.proofs.Common.{ℕ, ◌≡◌, refl, false, true≢false, Option,
 use Rattle.pw_flow.specs.declared.flow.Op.TheVariants as op
 use Rattle.pw_flow.specs.declared.flow.BinKind.{BinKind}
 use Rattle.pw_webflow.specs.declared.web.WebOp.{WebOp}
-use Rattle.pw_webflow.specs.declared.web.WebOp.TheVariants.{Flow, Read, Write}
+use Rattle.pw_webflow.specs.declared.web.WebOp.TheVariants.{Flow}
 use Rattle.pw_webflow.specs.WebOutline.{calls}
 use Rattle.pw_select_lines.specs.Arithmetic.{routine_of}
 use Rattle.pw_law_select_ops.specs.Operations.{OperationFollows, ComputationsFollow, RoutinesFollow, NamedGlobalsFollow, AccessesFollow, CopiesFollow}
@@ -14,14 +14,7 @@ module _ (computations : ComputationsFollow) (routines : RoutinesFollow) (global
   binary k t a b (Some n) e = routines (Flow (op.Bin k t a b)) (n, e)
 
   pub operations_follow : (o : WebOp) → calls o ≡ false → OperationFollows o
-  operations_follow (Flow (op.Const t k)) quiet = computations (Flow (op.Const t k)) tt
-  operations_follow (Flow (op.Copy t a)) quiet = computations (Flow (op.Copy t a)) tt
-  operations_follow (Flow (op.Un k t a)) quiet = computations (Flow (op.Un k t a)) tt
   operations_follow (Flow (op.Bin k t a b)) quiet = binary k t a b (routine_of k) refl
-  operations_follow (Flow (op.Ext k t a)) quiet = computations (Flow (op.Ext k t a)) tt
-  operations_follow (Flow (op.AddrGlobal t g k)) quiet = computations (Flow (op.AddrGlobal t g k)) tt
-  operations_follow (Flow (op.AddrSlot t s)) quiet = computations (Flow (op.AddrSlot t s)) tt
-  operations_follow (Flow (op.AddrFn t f)) quiet = computations (Flow (op.AddrFn t f)) tt
   operations_follow (Flow (op.LoadG t g k)) quiet = globals (Flow (op.LoadG t g k)) tt
   operations_follow (Flow (op.StoreG g a k)) quiet = globals (Flow (op.StoreG g a k)) tt
   operations_follow (Flow (op.Load k t a)) quiet = accesses (Flow (op.Load k t a)) tt
@@ -29,5 +22,4 @@ module _ (computations : ComputationsFollow) (routines : RoutinesFollow) (global
   operations_follow (Flow (op.Move a b size unit)) quiet = copies (Flow (op.Move a b size unit)) tt
   operations_follow (Flow (op.Call t f args)) quiet = absurd (true≢false quiet)
   operations_follow (Flow (op.CallInd t a shape args)) quiet = absurd (true≢false quiet)
-  operations_follow (Read t r) quiet = computations (Read t r) tt
-  operations_follow (Write r a) quiet = computations (Write r a) tt
+  operations_follow o quiet = computations o tt

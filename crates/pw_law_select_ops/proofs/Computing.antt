@@ -349,12 +349,6 @@ computations_follow laws (Flow (op.AddrGlobal t g k)) h p functions w scratch si
     global_address_follows laws p functions w scratch site m n l before more t g k at is
 computations_follow laws (Flow (op.AddrSlot t s)) h p functions w scratch site m n l before more at is = slot_address_follows laws p functions w scratch site m n l before more t s at is
 computations_follow laws (Flow (op.AddrFn t f)) h p functions w scratch site m n l before more at is = function_address_follows laws p functions w scratch site m n l before more t f at is
-computations_follow laws (Flow (op.LoadG t g k)) h p functions w scratch site m n l before more at is = absurd h
-computations_follow laws (Flow (op.StoreG g a k)) h p functions w scratch site m n l before more at is = absurd h
-computations_follow laws (Flow (op.Load k t a)) h p functions w scratch site m n l before more at is = absurd h
-computations_follow laws (Flow (op.Store k a b)) h p functions w scratch site m n l before more at is = absurd h
-computations_follow laws (Flow (op.Move a b size unit)) h p functions w scratch site m n l before more at is = absurd h
-computations_follow laws (Flow (op.Call t f args)) h p functions w scratch site m n l before more at is = absurd h
-computations_follow laws (Flow (op.CallInd t a shape args)) h p functions w scratch site m n l before more at is = absurd h
 computations_follow laws (Read t r) h p functions w scratch site m n l before more at is = read_follows laws p functions w scratch site m n l before more t r at is
 computations_follow laws (Write r a) h p functions w scratch site m n l before more at is = write_follows laws p functions w scratch site m n l before more r a at is
+computations_follow laws _ h p functions w scratch site m n l before more at is = absurd h

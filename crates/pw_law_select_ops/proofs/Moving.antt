@@ -26,7 +26,7 @@ use Rattle.pw_delay.specs.declared.items.Item.{Item}
 use Rattle.pw_delay.specs.declared.items.Item.TheVariants.{Plain, Turns}
 use Rattle.pw_delay.specs.Items.{bare, slotted}
 use Rattle.pw_webflow.specs.declared.web.WebOp.{WebOp}
-use Rattle.pw_webflow.specs.declared.web.WebOp.TheVariants.{Flow, Read, Write}
+use Rattle.pw_webflow.specs.declared.web.WebOp.TheVariants.{Flow}
 use Rattle.pw_run_languages.specs.Programs.{Program}
 use Rattle.pw_run_languages.specs.LawfulPrograms.{IsProgram}
 use Rattle.pw_run_languages.specs.Memory.{is_open, is_apart, copy_in, copy}
@@ -683,19 +683,4 @@ module _ (laws : Laws) (copying : CopyLaws) (p : Program) (functions : List Loca
 pub copies_follow : Laws → CopyLaws → (o : WebOp) → CopiesBytes o → OperationFollows o
 copies_follow laws copying (Flow (op.Move a b size unit)) h p functions w scratch site m n l before more at is =
     move_follows laws copying p functions w scratch site m n l before more a b size unit at is
-copies_follow laws copying (Flow (op.Bin k t a b)) h p functions w scratch site m n l before more at is = absurd h
-copies_follow laws copying (Flow (op.Const t k)) h p functions w scratch site m n l before more at is = absurd h
-copies_follow laws copying (Flow (op.Copy t a)) h p functions w scratch site m n l before more at is = absurd h
-copies_follow laws copying (Flow (op.Un k t a)) h p functions w scratch site m n l before more at is = absurd h
-copies_follow laws copying (Flow (op.Ext k t a)) h p functions w scratch site m n l before more at is = absurd h
-copies_follow laws copying (Flow (op.AddrGlobal t g k)) h p functions w scratch site m n l before more at is = absurd h
-copies_follow laws copying (Flow (op.AddrSlot t s)) h p functions w scratch site m n l before more at is = absurd h
-copies_follow laws copying (Flow (op.AddrFn t f)) h p functions w scratch site m n l before more at is = absurd h
-copies_follow laws copying (Flow (op.LoadG t g k)) h p functions w scratch site m n l before more at is = absurd h
-copies_follow laws copying (Flow (op.StoreG g a k)) h p functions w scratch site m n l before more at is = absurd h
-copies_follow laws copying (Flow (op.Load k t a)) h p functions w scratch site m n l before more at is = absurd h
-copies_follow laws copying (Flow (op.Store k a b)) h p functions w scratch site m n l before more at is = absurd h
-copies_follow laws copying (Flow (op.Call t f args)) h p functions w scratch site m n l before more at is = absurd h
-copies_follow laws copying (Flow (op.CallInd t a shape args)) h p functions w scratch site m n l before more at is = absurd h
-copies_follow laws copying (Read t r) h p functions w scratch site m n l before more at is = absurd h
-copies_follow laws copying (Write r a) h p functions w scratch site m n l before more at is = absurd h
+copies_follow laws copying _ h p functions w scratch site m n l before more at is = absurd h

@@ -25,7 +25,7 @@ use Rattle.pw_delay.specs.declared.items.Item.{Item}
 use Rattle.pw_delay.specs.declared.items.Item.TheVariants.{Plain, Turns}
 use Rattle.pw_delay.specs.Items.{slotted}
 use Rattle.pw_webflow.specs.declared.web.WebOp.{WebOp}
-use Rattle.pw_webflow.specs.declared.web.WebOp.TheVariants.{Flow, Read, Write}
+use Rattle.pw_webflow.specs.declared.web.WebOp.TheVariants.{Flow}
 use Rattle.pw_run.specs.Runs.{AreAlike}
 use Rattle.pw_run_languages.specs.Traces.{Event}
 use Rattle.pw_run_languages.specs.Values.{number_of, on_numbers}
@@ -348,19 +348,4 @@ module _ (laws : Laws) (load : TemporariesAreLoaded) (p : Program) (functions : 
 pub routines_follow : Laws → TemporariesAreLoaded → (o : WebOp) → TakesRoutine o → OperationFollows o
 routines_follow laws load (Flow (op.Bin k t a b)) h p functions w scratch site m n l before more at is =
     routine_follows laws load p functions w scratch site m n l before more k t a b h.0 h.1 at is
-routines_follow laws load (Flow (op.Const t k)) h p functions w scratch site m n l before more at is = absurd h
-routines_follow laws load (Flow (op.Copy t a)) h p functions w scratch site m n l before more at is = absurd h
-routines_follow laws load (Flow (op.Un k t a)) h p functions w scratch site m n l before more at is = absurd h
-routines_follow laws load (Flow (op.Ext k t a)) h p functions w scratch site m n l before more at is = absurd h
-routines_follow laws load (Flow (op.AddrGlobal t g k)) h p functions w scratch site m n l before more at is = absurd h
-routines_follow laws load (Flow (op.AddrSlot t s)) h p functions w scratch site m n l before more at is = absurd h
-routines_follow laws load (Flow (op.AddrFn t f)) h p functions w scratch site m n l before more at is = absurd h
-routines_follow laws load (Flow (op.LoadG t g k)) h p functions w scratch site m n l before more at is = absurd h
-routines_follow laws load (Flow (op.StoreG g a k)) h p functions w scratch site m n l before more at is = absurd h
-routines_follow laws load (Flow (op.Load k t a)) h p functions w scratch site m n l before more at is = absurd h
-routines_follow laws load (Flow (op.Store k a b)) h p functions w scratch site m n l before more at is = absurd h
-routines_follow laws load (Flow (op.Move a b size unit)) h p functions w scratch site m n l before more at is = absurd h
-routines_follow laws load (Flow (op.Call t f args)) h p functions w scratch site m n l before more at is = absurd h
-routines_follow laws load (Flow (op.CallInd t a shape args)) h p functions w scratch site m n l before more at is = absurd h
-routines_follow laws load (Read t r) h p functions w scratch site m n l before more at is = absurd h
-routines_follow laws load (Write r a) h p functions w scratch site m n l before more at is = absurd h
+routines_follow laws load _ h p functions w scratch site m n l before more at is = absurd h

@@ -1,9 +1,8 @@
 //! The registers that functions share, in full builds: a law without code.
 #![tactic(auto)]
 
-ghost use Rattle.std.specs.Prelude.{◌≤◌, Ok};
-ghost use Rattle.pw_value.specs.Limits.{stack_least, stack_limit};
-ghost use Rattle.pw_db.specs.Limits.{colour_limit};
+ghost use Rattle.std.specs.Prelude.{Ok};
+ghost use Rattle.pw_build_objects.specs.Options.{AreOpts};
 ghost use Rattle.pw_store_modules.specs.Modules.{Texts};
 ghost use Rattle.pw_build_opts.specs.declared.opts.Opts.{Opts};
 ghost use Rattle.pw_build_objects.specs.Programs.{Parts};
@@ -23,7 +22,7 @@ use pw_law_whole::{full_builds_are_whole, full_builds_hold};
 /// analyser makes of the summaries of the build's flow graphs, and of the functions of which its objects are made.
 pub fn full_builds_share_registers_safely()
     ensures { (texts : Texts) (opts : Opts) (parts : Parts) (p : Program) → FullBuild texts opts (Ok parts) → IsProgramOf texts p →
-        HavePlainNames texts → opts.colours ≤ colour_limit → stack_least ≤ opts.stack → opts.stack ≤ stack_limit → SharesSafely p parts opts }
+        HavePlainNames texts → AreOpts opts → SharesSafely p parts opts }
 {
     full_builds_are_whole();
     full_builds_hold();

@@ -33,7 +33,7 @@ use Rattle.pw_run_languages.specs.Programs.{Library, library_at, library_shape, 
 use Rattle.pw_run_languages.specs.FlowRun as flow
 use Rattle.pw_run_languages.specs.FlowRun.{flow_run}
 use Rattle.pw_run_languages.specs.LawfulPrograms.{IsProgram}
-use Rattle.pw_law_source.specs.Source.{source_stages}
+use Rattle.pw_law_source.specs.Source.{source_progress}
 
 -- ---- accepted programs
 
@@ -126,9 +126,10 @@ SourceIsNeverWrong =
     AreChecked p → IsAccepted p frame_of stack → AreBytes input →
     (n : ℕ) → (source_run p frame_of stack input n).end ≢ source.Wrong
 
+-- What lowering owes: the run of the flow graphs meets the source's, also where that comes to an undefined operation, up to it.
 abbrev pub LoweringKeepsRuns : Type 0
 LoweringKeepsRuns =
     (p : Program) (frame_of : List ℕ → ℕ) (stack : ℕ) (input : List ℕ) →
     AreChecked p → IsAccepted p frame_of stack → NoneForLibrary frame_of → AreBytes input →
     Refines (MomentKept (flow_program p frame_of stack))
-    (source_stages p frame_of stack input) (flow_run (flow_program p frame_of stack) input)
+    (source_progress p frame_of stack input) (flow_run (flow_program p frame_of stack) input)

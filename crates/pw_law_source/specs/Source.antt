@@ -29,6 +29,24 @@ unfoldable pub source_stages : Program → (List ℕ → ℕ) → ℕ → List �
 source_stages p frame_of stack input n =
     staged n (run_main (record { program = p; frame_of = frame_of; stack = stack }) n (start_state p input))
 
+-- ---- with what is noted up to an end of any kind
+
+-- As those, but where the run comes to an undefined operation it may go on in any way, and up to there it has shown what it has.
+abbrev pub ended_within : ℕ → Ending → State → Stage Moment
+ended_within n (Exit status) s = Over (Ended status) (shown 0 s)
+ended_within n StackFull s = Over run.StackFull (shown 0 s)
+ended_within n Bound s = Going (shown n s)
+ended_within n (Undefined operation home token) s = Going (shown 0 s)
+ended_within n Wrong s = Going (shown 0 s)
+
+abbrev pub staged_within : ℕ → Outcome (Unit {0}) → Stage Moment
+staged_within n (Gives done s) = Over (Ended 0) (shown 0 s)
+staged_within n (Ends ending s) = ended_within n ending s
+
+unfoldable pub source_progress : Program → (List ℕ → ℕ) → ℕ → List ℕ → ℕ → Stage Moment
+source_progress p frame_of stack input n =
+    staged_within n (run_main (record { program = p; frame_of = frame_of; stack = stack }) n (start_state p input))
+
 -- ---- without
 
 abbrev pub end_of : Ending → SourceEnd

@@ -4,14 +4,15 @@ use Rattle.std.specs.Prelude.{All, Ok}
 use Rattle.std.specs.List.{AllByRecursion}
 use Rattle.std.specs.FinMap as finite
 use Rattle.std.proofs.lemmas.List.Elements.{All-from_recursion}
-use Rattle.pw_value.specs.Limits.{stack_least, stack_limit}
+use Rattle.pw_value.specs.Limits.{stack_limit}
 use Rattle.pw_files.specs.Rising.{IsRising}
 use Rattle.pw_files.proofs.Standing.{Has, has_by, has_map, has_each}
 use Rattle.pw_files.proofs.ByteOrder.{strictly_rising}
 use Rattle.pw_io.proofs.FileMaps.{keys-order}
 use Rattle.pw_flow.specs.declared.flow.FlowModule.{FlowModule}
 use Rattle.pw_flow.specs.ValidFlow.{IsValid}
-use Rattle.pw_db.specs.Limits.{colour_limit, register_count}
+use Rattle.pw_db.specs.Limits.{register_count}
+use Rattle.pw_build_objects.specs.Options.{AreOpts}
 use Rattle.pw_db.specs.Database.{IsDatabase, HasDirectives}
 use Rattle.pw_summary.specs.declared.summary.Summary.{Summary}
 use Rattle.pw_summary.specs.Summary.{IsSummary}
@@ -92,18 +93,18 @@ is_whole laws texts p frame_of stack valid declares rules of_texts plain room ch
     (laws.less (map shown flows) (map interface (map object_shown flows)) (objects_less flows declares) ((laws.alike flows rules.summaries valid rules.of_flows).1 rules.linked))
 
 pub whole_with : Laws → (texts : Texts) (opts : Opts) (parts : Parts) (p : Program) → AllByRecursion DeclaresMain (map flow_of p.modules) → Completes (map flow_of p.modules) [] opts (Ok parts) → IsProgramOf texts p →
-    HavePlainNames texts → opts.colours ≤ colour_limit → stack_least ≤ opts.stack → opts.stack ≤ stack_limit → IsWholeWith p parts opts
-whole_with laws texts opts parts p declares (are, linked) of_texts plain few enough room =
+    HavePlainNames texts → AreOpts opts → IsWholeWith p parts opts
+whole_with laws texts opts parts p declares (are, linked) of_texts plain limits =
     let frame_of = frame_in (image_of parts.objects opts.stack) in
     let q = flow_program p frame_of opts.stack in
     let db = parts.database in
     let ms = are.forms in
     let has = are.database in
     let lawful_summaries = all_lawful ms has.summaries (laws.lawful_forms opts.optimise (map flow_of p.modules) ms are.of_flows are.lawful) has.of_flows in
-    let lawful_db : IsDatabase db = laws.databases has.summaries opts.colours db (omega (arith, few)) (All-from_recursion IsSummary has.summaries lawful_summaries) has.database in
+    let lawful_db : IsDatabase db = laws.databases has.summaries opts.colours db (omega (arith, limits.colours)) (All-from_recursion IsSummary has.summaries lawful_summaries) has.database in
     let single = laws.one db lawful_db in
     let checked : AreChecked p = λ m there. all_checked (finite.entries texts) p.modules of_texts m (has_by m p.modules there) in
-    let whole : IsWhole p frame_of opts.stack = is_whole laws texts p frame_of opts.stack are.lawful declares are.rules of_texts plain room checked in
+    let whole : IsWhole p frame_of opts.stack = is_whole laws texts p frame_of opts.stack are.lawful declares are.rules of_texts plain limits.most checked in
     let program = formed.program_of_forms laws.forms opts.optimise p q ms are.of_flows whole.accepted.program in
     let summarised : AllSummarise ms has.summaries = all_summarise ms has.summaries has.of_flows in
     let laid : IsLaidOut p (flows_in ms parts opts.stack) db (functions_under ms parts opts.stack) parts.objects = record {
@@ -130,9 +131,9 @@ whole_with laws texts opts parts p declares (are, linked) of_texts plain few eno
         implements = formed.runs_of_forms laws.forms opts.optimise p q ms are.of_flows (laws.implement low p frame_of opts.stack checked whole.parts whole.accepted);
         frames = laid.frames;
         names = formed.names_of_forms laws.forms opts.optimise p q ms are.of_flows whole.names;
-        enough = enough;
+        enough = limits.least;
         linked = record { each = lawful_summaries; linked = has.linked };
-        few = few;
+        few = limits.colours;
         database = has.database;
         alike = laws.same (flows_in ms parts opts.stack) has.summaries has.database.graph program
             (formed.shapes_of_forms laws.forms opts.optimise p q ms are.of_flows (laws.accepted_shapes p frame_of opts.stack whole.accepted)) summarised has.database.graph_of;

@@ -1,9 +1,8 @@
 //! Laws of full builds, without code: what a build makes of texts is what the layers between C and words speak of.
 #![tactic(auto)]
 
-ghost use Rattle.std.specs.Prelude.{◌≡◌, ◌≤◌, Ok};
-ghost use Rattle.pw_value.specs.Limits.{stack_least, stack_limit};
-ghost use Rattle.pw_db.specs.Limits.{colour_limit};
+ghost use Rattle.std.specs.Prelude.{◌≡◌, Ok};
+ghost use Rattle.pw_build_objects.specs.Options.{AreOpts};
 ghost use Rattle.pw_io.specs.Files.{Files};
 ghost use Rattle.pw_store_modules.specs.Modules.{Texts, module_map};
 ghost use Rattle.pw_build_opts.specs.declared.opts.Opts.{Opts};
@@ -54,7 +53,7 @@ pub fn modules_of_files_have_plain_names()
 /// gives serve their functions; and the objects are made of these, and fit into the memory.
 pub fn full_builds_are_whole()
     ensures { (texts : Texts) (opts : Opts) (parts : Parts) (p : Program) → FullBuild texts opts (Ok parts) → IsProgramOf texts p →
-        HavePlainNames texts → opts.colours ≤ colour_limit → stack_least ≤ opts.stack → opts.stack ≤ stack_limit → IsWholeWith p parts opts }
+        HavePlainNames texts → AreOpts opts → IsWholeWith p parts opts }
 {
     phase_one_is_exact();
     flow_graphs_declare_main();
@@ -78,7 +77,7 @@ pub fn full_builds_are_whole()
 /// So each frame of the map of its image is at most the room of its function.
 pub fn frames_of_full_builds_fit()
     ensures { (texts : Texts) (opts : Opts) (parts : Parts) (p : Program) → FullBuild texts opts (Ok parts) → IsProgramOf texts p →
-        HavePlainNames texts → opts.colours ≤ colour_limit → stack_least ≤ opts.stack → opts.stack ≤ stack_limit → FramesFit p (image_of parts.objects opts.stack) }
+        HavePlainNames texts → AreOpts opts → FramesFit p (image_of parts.objects opts.stack) }
 {
     full_builds_are_whole();
     frames_are_within_rooms();
@@ -90,7 +89,7 @@ pub fn frames_of_full_builds_fit()
 /// of the summaries of its flow graphs.
 pub fn full_builds_hold()
     ensures { (texts : Texts) (opts : Opts) (parts : Parts) (p : Program) → FullBuild texts opts (Ok parts) → IsProgramOf texts p →
-        HavePlainNames texts → opts.colours ≤ colour_limit → stack_least ≤ opts.stack → opts.stack ≤ stack_limit → HoldsWith p parts opts }
+        HavePlainNames texts → AreOpts opts → HoldsWith p parts opts }
 {
     full_builds_are_whole();
     lowering_keeps_runs();

@@ -1,8 +1,7 @@
 //! The law. The function here does nothing: its clause is a fact about all values.
 
-ghost use Rattle.std.specs.Prelude.{◌≤◌, ℕ, List, Ok};
-ghost use Rattle.pw_value.specs.Limits.{stack_least, stack_limit};
-ghost use Rattle.pw_db.specs.Limits.{colour_limit};
+ghost use Rattle.std.specs.Prelude.{ℕ, List, Ok};
+ghost use Rattle.pw_build_objects.specs.Options.{AreOpts};
 ghost use Rattle.pw_store_modules.specs.Modules.{Texts};
 ghost use Rattle.pw_build_opts.specs.declared.opts.Opts.{Opts};
 ghost use Rattle.pw_build_objects.specs.Programs.{Parts};
@@ -33,7 +32,7 @@ use pw_opt::optimised_forms_are_one;
 /// defined on the input.
 pub fn full_builds_tell_the_truth()
     ensures { (texts : Texts) (opts : Opts) (parts : Parts) (p : Program) (frames : List FrameInfo) (k budget : ℕ) (input : List ℕ) →
-        FullBuild texts opts (Ok parts) → IsProgramOf texts p → HavePlainNames texts → opts.colours ≤ colour_limit → stack_least ≤ opts.stack → opts.stack ≤ stack_limit →
+        FullBuild texts opts (Ok parts) → IsProgramOf texts p → HavePlainNames texts → AreOpts opts →
         AreFrames parts.objects frames → AreBytes input → IsDefined (source_runs p (frame_in (image_of parts.objects opts.stack)) opts.stack input) →
         ShowsTruth p (image_of parts.objects opts.stack) parts.objects frames opts.stack k budget input }
 {

@@ -204,8 +204,8 @@ constants_sound temps count = record {
 
 -- ---- copies
 
-original_below : (originals : List Bool) (t a : ℕ) → may_copy originals t a ≡ true → a < length originals
-original_below originals t a e = elim (cases_lt a (length originals)) [
+copied_below : (originals : List Bool) (t a : ℕ) → may_copy originals t a ≡ true → a < length originals
+copied_below originals t a e = elim (cases_lt a (length originals)) [
   | inl lt ↦ lt
   | inr past ↦ absurd (let none : may_copy originals t a ≡ false = get_or_past originals a false past in cc)
 ]
@@ -213,7 +213,7 @@ original_below originals t a e = elim (cases_lt a (length originals)) [
 module _ (originals : List Bool) (temps : ℕ) (long : length originals ≡ temps) (row : List Flat) (has : HasWhatMay (may_copy originals) row) where
   one_below : (a : ℕ) (x : Flat) → known row a ≡ x → a < temps → one_or x a < temps
   one_below a Bottom e lt = lt
-  one_below a (One n) e lt = let low = original_below originals a n (has a n e) in omega (arith, low, long)
+  one_below a (One n) e lt = let low = copied_below originals a n (has a n e) in omega (arith, low, long)
   one_below a Many e lt = lt
 
   original_below : (a : ℕ) → a < temps → original row a < temps

@@ -8,11 +8,10 @@ ghost use Rattle.pw_store_modules.specs.Modules.{is_module_file, stem};
 ghost use Rattle.pw_store_texts.specs.Bytes.{bytes_among, bytes_in, is_counted, text_bytes};
 ghost use Rattle.pw_store_texts.specs.Names.{source_name};
 
-use crate::headers::TEXT_READ;
-use crate::names::{SOURCE_ENDING, is_source_file, stem};
+use crate::names::{SOURCE_ENDING, is_source_file};
 use pw_cpp::is_header;
 use pw_io::{Store, StoreError};
-use pw_store_modules::{is_module_file, module_file};
+use pw_store_modules::{TEXT_READ, is_module_file, module_file, stem};
 use pw_value::Name;
 use std::alloc::{AllocError, Global};
 

@@ -9,10 +9,10 @@ ghost use Rattle.pw_store_modules.specs.Modules.{is_module_name};
 ghost use Rattle.pw_store_modules.specs.Views.{source};
 ghost use Rattle.pw_store_texts.specs.Named.{is_text_of_module, named_among, names_of_texts, with_entry};
 
-use crate::names::{is_source_file, stem};
+use crate::names::is_source_file;
 use crate::place::put_module;
 use pw_io::{Store, StoreError};
-use pw_store_modules::{Module, ModulesFault, is_module_file, module_file};
+use pw_store_modules::{Module, ModulesFault, is_module_file, module_file, stem};
 use pw_value::Name;
 use pw_value::limits::MODULE_LIMIT;
 use std::alloc::{AllocError, Global};

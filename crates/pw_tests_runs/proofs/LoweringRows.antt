@@ -31,9 +31,9 @@ use Rattle.pw_run_languages.specs.Programs as flows
 use Rattle.pw_run_languages.specs.LawfulPrograms.{IsProgram}
 use Rattle.pw_run_languages.specs.FlowRun as flow
 use Rattle.pw_run_languages.specs.FlowRun.{flow_run}
-use Rattle.pw_law_source.specs.Source.{source_stages}
+use Rattle.pw_law_source.specs.Source.{source_stages, source_progress}
 use Rattle.pw_law_source.specs.Lowering.{ByteKept, SameGlobals, MomentKept}
-use Rattle.pw_law_layers.specs.Whole.{HasRoom, HaveRooms, Implements, IsBuilt}
+use Rattle.pw_law_layers.specs.Whole.{HasRoom, HaveRooms, roomless, Implements, IsBuilt}
 use Rattle.pw_law_analysis.specs.OwedLaws.{IsAnalysed}
 use Rattle.pw_tests_runs.proofs.Programs.{bump, bump_main, start, bump_directives, global}
 use Rattle.pw_tests_runs.proofs.ProgramRows.{lawful_program}
@@ -120,6 +120,41 @@ meets input (suc zero) = record {
 }
 meets input (suc (suc n)) = subst (λ (s : Stage source.Moment). Met (MomentKept q) s (flow_run q input)) (sym (over input n)) (over_too input)
 
+-- ---- and where no function takes room on the stack
+
+over_roomless : (input : List ℕ) (n : ℕ) → source_progress in_c (λ f. 0) 0 input (suc (suc n)) ≡ Over (Ended 2) whole
+unfolding give stop go_on ◌>>=◌ branch wrong look make end_object write next_byte get_char put_char called returned during with_object need undefined told judge objects_now within load store copy fetch put truth outcome_of on_numbers unary_number unary advance advance_elements difference ordered compared on_pointers pointer_and_number number_and_pointer binary convert local_place symbol_place used value_by value_at cast bounded_call take_room library_call call_body call call_value old_value update step answer_of place_of values_of go_forward caught taking_up after_body turn loop meet_loop always value_of condition for_condition drop_value switch_to after_switch with_locals set_local initialise initialise_all meaning items arms behind_arms set_parameters result_of run_body callee calls finish run_main source_progress directed in_words entered_from linked
+over_roomless input zero = refl
+over_roomless input (suc n) = refl
+
+over_roomless_too : (input : List ℕ) → Met (MomentKept q) (Over (Ended 2) whole) (flow_run (roomless q) input)
+unfolding command flow.step flow.steps flow_run directed in_words entered_from selected entered_lines placed laid linked
+over_roomless_too input = record {
+  at = 20;
+  view = record { output = 50 ∷ []; read = 0; events = 4; log = all_calls };
+  is = refl;
+  same = record { output = refl; read = refl; log = alike };
+  counted = omega arith;
+}
+
+meets_roomless : (input : List ℕ) (n : ℕ) → Met (MomentKept q) (source_progress in_c (λ f. 0) 0 input n) (flow_run (roomless q) input)
+unfolding give stop go_on ◌>>=◌ branch wrong look make end_object write next_byte get_char put_char called returned during with_object need undefined told judge objects_now within load store copy fetch put truth outcome_of on_numbers unary_number unary advance advance_elements difference ordered compared on_pointers pointer_and_number number_and_pointer binary convert local_place symbol_place used value_by value_at cast bounded_call take_room library_call call_body call call_value old_value update step answer_of place_of values_of go_forward caught taking_up after_body turn loop meet_loop always value_of condition for_condition drop_value switch_to after_switch with_locals set_local initialise initialise_all meaning items arms behind_arms set_parameters result_of run_body callee calls finish run_main source_progress command flow.step flow.steps flow_run directed in_words entered_from selected entered_lines placed laid linked
+meets_roomless input zero = record {
+  at = 0;
+  view = record { output = []; read = 0; events = 0; log = [] };
+  is = refl;
+  same = record { output = refl; read = refl; log = none };
+  counted = omega arith;
+}
+meets_roomless input (suc zero) = record {
+  at = 1;
+  view = record { output = []; read = 0; events = 1; log = flow.Called (codes "main") (n_is 0) ∷ [] };
+  is = refl;
+  same = record { output = refl; read = refl; log = called_main };
+  counted = omega arith;
+}
+meets_roomless input (suc (suc n)) = subst (λ (s : Stage source.Moment). Met (MomentKept q) s (flow_run (roomless q) input)) (sym (over_roomless input n)) (over_roomless_too input)
+
 -- ---- they implement the program
 
 lawful : IsProgram q
@@ -149,7 +184,7 @@ rooms = record {
 }
 
 pub implements : Implements in_c q
-implements = record { program = lawful; runs = λ input library bytes. meets input; rooms = rooms }
+implements = record { program = lawful; runs = λ input library bytes. meets input; progress = λ input bytes. meets_roomless input; rooms = rooms }
 
 built_whole : IsBuilt in_c q bump_directives places objects
 built_whole = built in_c implements

@@ -14,9 +14,9 @@ returns c = λ files opts full are.
     let parts = builds.0 in
     let plain = c.modules_of_files_have_plain_names.ensures files in
     let program = c.full_builds_have_a_program.ensures.program texts opts parts builds.1 in
-    let holds = c.full_builds_hold.ensures texts opts parts program.0 builds.1 program.1 plain are.colours are.least are.most in
+    let holds = c.full_builds_hold.ensures texts opts parts program.0 builds.1 program.1 plain are in
     let value = linked parts.objects opts.stack in
-    let whole = c.full_builds_are_whole.ensures texts opts parts program.0 builds.1 program.1 plain are.colours are.least are.most in
+    let whole = c.full_builds_are_whole.ensures texts opts parts program.0 builds.1 program.1 plain are in
     record {
       program = program.0;
       of_texts = program.1;
@@ -26,7 +26,7 @@ returns c = λ files opts full are.
       agree = λ input bytes. (holds.holds input bytes).holds.agree;
       tells = λ input bytes budget bound more meaningful.
           c.stops_are_those_of_the_source.ensures (runs_of program.0 value opts.stack input) (image_start value.memory) input (holds.holds input bytes).holds.agree budget bound more meaningful;
-      fit = c.frames_of_full_builds_fit.ensures texts opts parts program.0 builds.1 program.1 plain are.colours are.least are.most;
+      fit = c.frames_of_full_builds_fit.ensures texts opts parts program.0 builds.1 program.1 plain are;
       forms = holds.forms;
       of_program = holds.of_program;
       summaries = holds.summaries;

@@ -16,5 +16,5 @@ returns c = λ files shown opts k input effect p are genuine bytes seen of where
     (λ outcome build. c.genuine_objects_give_the_full_image.ensures shown opts.build (Ok outcome) kept build)
     c.images_and_files_are_one_to_one.ensures.one_image p
     (λ parts frames build frames_are defined.
-    c.full_builds_tell_the_truth.ensures (module_map shown) opts.build parts p frames k opts.budget input build of plain are.colours are.least are.most frames_are bytes defined)
+    c.full_builds_tell_the_truth.ensures (module_map shown) opts.build parts p frames k opts.budget input build of plain are frames_are bytes defined)
     done where_is.0 (subst (λ (fs : Files). BuildOutcome fs opts.build where_is.0) same where_is.1.2) where_is.2

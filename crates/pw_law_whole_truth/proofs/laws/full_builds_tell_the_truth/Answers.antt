@@ -13,8 +13,8 @@ use Rattle.pw_law_whole_truth.proofs.Texts.{made_of}
 use Rattle.pw_law_whole_truth.proofs.laws.full_builds_tell_the_truth.Goals as goal
 
 pub returns : goal.returns
-returns c = λ texts opts parts p frames k budget input build of_texts plain few least most are bytes defined.
-    let whole = c.full_builds_are_whole.ensures texts opts parts p build of_texts plain few least most in
+returns c = λ texts opts parts p frames k budget input build of_texts plain limits are bytes defined.
+    let whole = c.full_builds_are_whole.ensures texts opts parts p build of_texts plain limits in
     let a = whole.analysed c.lowering_keeps_runs.ensures in
     let q = flows_in whole.forms parts opts.stack in
     let db = parts.database in

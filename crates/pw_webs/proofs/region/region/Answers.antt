@@ -35,3 +35,17 @@ loop-set-preserved c =
     let outs = subst (λ (rs : List (List ℕ)). (f : ℕ) → Holds more f ↔ IsOutside rs set f) c.deref.ensures.value c.in_ok-more.ensures.holds in
     seed_more c.args.graph.now c.args.global b.callers.items set more c.union_with.new.self c.add_between.new.set c.requires.beside.callers c.loop-set.invariant outs c.union_with.ensures.holds c.union_with.ensures.length
     c.in_ok-add_between.ensures.holds c.add_between.ensures.length
+
+pub loop-set-smaller-in_ok-add_between : goal.loop-set-smaller-in_ok-add_between
+loop-set-smaller-in_ok-add_between c =
+    region_less c.loop-set.set c.in_ok-more.more c.union_with.new.self c.add_between.new.set c.union_with.ensures.length c.add_between.ensures.length c.union_with.ensures.holds
+    (λ f h. (c.in_ok-add_between.ensures.holds f).1 (inl h)) (on_true c.union_with.result _ c.union_with.ensures.added c.if-not-union_with.false)
+
+pub loop-set-preserved-in_ok-add_between : goal.loop-set-preserved-in_ok-add_between
+loop-set-preserved-in_ok-add_between c =
+    let b = c.args.beside.now in
+    let set = c.loop-set.set in
+    let more = c.in_ok-more.more in
+    let outs = subst (λ (rs : List (List ℕ)). (f : ℕ) → Holds more f ↔ IsOutside rs set f) c.deref.ensures.value c.in_ok-more.ensures.holds in
+    seed_more c.args.graph.now c.args.global b.callers.items set more c.union_with.new.self c.add_between.new.set c.requires.beside.callers c.loop-set.invariant outs c.union_with.ensures.holds c.union_with.ensures.length
+    c.in_ok-add_between.ensures.holds c.add_between.ensures.length
