@@ -4,9 +4,7 @@ use Rattle.std.specs.Int.{bit_at}
 use Rattle.std.specs.List.Sorted.{IsPermutation}
 use Rattle.std.proofs.Common.{arith, ap, subst, sym, refl, ◌∙◌, inl, inr}
 use Rattle.std.proofs.lemmas.Nat.Bits.{bit_at-zero, bit_at_above}
-use Rattle.std.specs.declared.alloc.Global.{Global}
-use Rattle.std.specs.declared.vec.Vec.{Vec}
-use denote.RawPtr.{null_ptr}
+use Rattle.smallvec.specs.SmallVec.{SmallVec}
 use Rattle.pw_value.specs.declared.value.Kind.TheVariants.{W32}
 use Rattle.pw_fix.specs.Row.{Holds, members as numbers}
 use Rattle.pw_fix.specs.declared.bit_row.BitRow.{BitRow}
@@ -28,16 +26,8 @@ use Rattle.pw_tests_runs.proofs.SummaryRows.{summaries, function_names, graph, i
 
 -- ---- sets of the six functions
 
-abbrev word : ℕ → Vec ℕ Global
-word n = record {
-  ptr = null_ptr;
-  len = 1;
-  cap = 1;
-  alloc = record { memory = record { seal = tt } };
-  items = n ∷ [];
-  ok = (refl, omega arith);
-  small = omega arith;
-}
+abbrev word : ℕ → SmallVec ℕ
+word n = record { items = n ∷ []; capacity = 1 }
 
 pub past : (n : ℕ) → n < 64 → (j k : ℕ) → 6 ≤ j * 64 + k → bit_at (slice_index (n ∷ []) j) k ≡ 1 → ⊥
 past n few zero k le h = let none : bit_at n k ≡ 0 = bit_at_above n 6 k (omega (arith, few)) (omega (arith, le)) in omega (arith, none, h)
