@@ -109,8 +109,8 @@ fn interpret_seen<S: Store, I: Source, O: Sink>(
 /// The answer is how the run ended: `Ended`, `StackStop`, `Spent` where it did not end within the bound, or `Undefined` at the first
 /// operation that has no meaning in C, with the module and the token that met it, and the token's line. `Refused` for the first
 /// module that is refused, with the line, and `LinkRefused` where the modules are refused together; then nothing is read or put
-/// out. At a fault of the store, the input or the output, or for want of memory, the run is given up: what was put out is a front of
-/// the program's output, and what was read a front of what it reads.
+/// out. At a fault of the store, the input or the output, or for want of memory, the run is given up: what was put out is a prefix
+/// of the program's output, and what was read a prefix of what it reads.
 #[tactic(auto, using(crate::proofs::ToldLemmas::line_stored, crate::proofs::ToldLemmas::kind_told, crate::proofs::ToldLemmas::kind_stored, crate::proofs::ToldLemmas::store_told, crate::proofs::ToldLemmas::read_told, crate::proofs::ToldLemmas::read_stored, crate::proofs::ToldLemmas::write_told, crate::proofs::ToldLemmas::write_stored, crate::proofs::ToldLemmas::streams_told, crate::proofs::ToldLemmas::streams_stored, crate::proofs::ToldLemmas::kept_told))]
 pub fn interpret_modules<S: Store, I: Source, O: Sink>(
     alloc: Global,

@@ -47,7 +47,8 @@ impl Directives {
         }
     }
 
-    /// Whether they hold a web, a register that is free to use, or one to save for others; a database has no others.
+    /// Whether they hold a web, a register that is free to use, or one to save for others. The analyser gives a database no
+    /// directives that hold none of these.
     pub fn say_something(&self) -> bool
         ensures { result ≡ say_something self.now }
     {

@@ -38,8 +38,8 @@ fn number_word(callables: &[Callable], name: &[u8]) -> Result<u32, AllocError>
     word_of(number_of(callables, name))
 }
 
-/// The number of each function of a program, by which pointers to functions are told apart: in the order of the
-/// functions. A number past 32 bits is want of memory.
+/// The numbers of a program's functions, in their order: pointers to functions are told apart by them. A number past 32
+/// bits is told as want of memory.
 pub fn function_numbers(alloc: Global, callables: &[Callable]) -> Result<Vec<u32>, AllocError>
     ensures { IfOk result (λ v. v.items ≡ numbers_of (view_callables callables.now)) }
 {

@@ -110,7 +110,7 @@ pub fn end_uses(alloc: Global, end: End) -> Result<Few, NoMemory>
     }
 }
 
-/// The blocks at which it may go on.
+/// The blocks at which a function may go on behind a block's end.
 pub fn successors(alloc: Global, end: End) -> Result<Few, NoMemory>
     ensures { IfOk result (λ v. v.items ≡ successors end) }
 {

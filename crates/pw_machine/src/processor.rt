@@ -26,6 +26,7 @@ pub enum Outcome {
     Stops(End),
 }
 
+/// The machine apart from its input and output: its registers, program counters, memory, and why it has stopped, if it has.
 #[derive(Drop)]
 pub struct Processor {
     registers: [u32; 32],

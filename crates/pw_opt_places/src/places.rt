@@ -182,7 +182,7 @@ impl Places {
         })
     }
 
-    /// Where it is.
+    /// The place of temporary `t`: nowhere past those that there are.
     pub fn at(&self, t: u32) -> Place
         ensures { result ≡ place_of self.now.places.items t }
     {
