@@ -1,11 +1,12 @@
 -- What `cpp` answered and put, by the one output of the source.
 use Rattle.std.proofs.Common.{◌≡◌, ◌≢◌, ℕ, List, [], ◌∷◌, Option, Some, None, Result, Ok, Err, refl, sym, ap, ◌∙◌, subst}
-use Rattle.std.specs.Prelude.{IfSome}
+use Rattle.std.specs.Prelude.{IfSome, IfErr}
 use Rattle.std.specs.Global.{Vec}
 use Rattle.std.specs.Option.{option_map}
 use Rattle.std.specs.FinMap as finite
 use Rattle.pw_cpp.specs.Answers.{PreprocessesFile}
 use Rattle.pw_cpp.specs.declared.fault.CppFault.{CppFault}
+use Rattle.pw_cpp_directives.specs.declared.fault.CppKind.TheVariants as kind
 use Rattle.pw_cpp_sources.specs.Sources.{Texts}
 use Rattle.pw_io.specs.Files.{Told, Keeps, prefix_of}
 use Rattle.pw_io.specs.declared.StoreError.{StoreError}
@@ -14,16 +15,16 @@ use Rattle.pw_store_modules.specs.FileNames.{text_name}
 use Rattle.pw_store_modules.specs.Modules.{text_read}
 use Rattle.pw_store_texts.specs.Headers.{headers_of}
 use Rattle.pw_store_texts.specs.Names.{source_name}
-use Rattle.pw_store_texts.specs.Outputs.{ComesBy, Output, files_with}
+use Rattle.pw_store_texts.specs.Outputs.{ComesBy, Output, files_with, output_of}
 use Rattle.pw_top_answer.specs.declared.answer.Answer.{Answer}
 use Rattle.pw_top_answer.specs.declared.answer.Answer.TheVariants.{Done, Cpp, StoreFault, NoMemory, BadFile}
 use Rattle.pw_top_answer.specs.Effects.{Effect, PutsFiles, answers_alone, puts_files}
 use Rattle.pw_top_answer.specs.Outcomes.{Answers, store_answer}
 use Rattle.pw_commands.specs.Needed.{StopsAs}
-use Rattle.pw_commands.specs.Outcome.{IsFileStop, IsPutAnswer, Obeys}
+use Rattle.pw_commands.specs.Outcome.{IsFileStop, IsPutAnswer, Obeys, StopCount}
 use Rattle.pw_commands.proofs.ObeysLemmas.{obeys_fault, obeys_no_memory, obeys_one, put_answers, puts_none}
 use Rattle.pw_commands_cpp.specs.Command.{CppEffect, CppOver, IsCppAnswer, cpp_fault, effect_of, needed_source, text_in}
-use Rattle.pw_commands_cpp.specs.Steps.{ComesToOutput, IsCppStop, IsOutputOf, IsStopOf}
+use Rattle.pw_commands_cpp.specs.Steps.{ComesToOutput, IsCppStop, IsOutputOf, IsStopOf, output_or_fault}
 
 -- ---- the source
 
@@ -54,16 +55,22 @@ source-gone (Some t) file own name e o h =
 
 -- ---- the output
 
-pub output-put : (first : Option Told) (headers : Texts) (name text : List ℕ) (output : Vec ℕ) → IfSome first (λ t. headers ≡ headers_of t.files) → ComesBy headers name text (Ok output.items)
-    → IfSome first (λ t. ComesToOutput (headers_of t.files) name (Ok text) (Ok output))
-output-put None headers name text output e h = tt
-output-put (Some t) headers name text output e h = let P : Texts → Type 0 = λ x. ComesBy x name text (Ok output.items) in subst P e h
+told_over : (headers : Texts) (name text : List ℕ) (made : Result (Vec ℕ) CppFault) → ComesBy headers name text (output_of made) → ComesToOutput headers name (Ok text) (output_or_fault made)
+told_over headers name text (Ok output) h = h
+told_over headers name text (Err fault) h = ((fault.kind, fault.file, fault.line), h, refl)
 
-pub output-faulted : (first : Option Told) (headers : Texts) (name text : List ℕ) (fault : CppFault) → IfSome first (λ t. headers ≡ headers_of t.files) → ComesBy headers name text (Err (fault.kind, fault.file, fault.line))
-    → IfSome first (λ t. ComesToOutput (headers_of t.files) name (Ok text) (Err (Cpp fault)))
-output-faulted None headers name text fault e h = tt
-output-faulted (Some t) headers name text fault e h =
-    let P : Texts → Type 0 = λ x. ComesBy x name text (Err (fault.kind, fault.file, fault.line)) in ((fault.kind, fault.file, fault.line), subst P e h, refl)
+pub output_told : (first : Option Told) (headers : Texts) (name text : List ℕ) (made : Result (Vec ℕ) CppFault) → IfSome first (λ t. headers ≡ headers_of t.files) → ComesBy headers name text (output_of made)
+    → IfSome first (λ t. ComesToOutput (headers_of t.files) name (Ok text) (output_or_fault made))
+output_told None headers name text made e h = tt
+output_told (Some t) headers name text made e h = told_over (headers_of t.files) name text made (subst (λ (x : Texts). ComesBy x name text (output_of made)) e h)
+
+pub told_stops : (made : Result (Vec ℕ) CppFault) → IfErr made (λ fault. fault.kind ≢ kind.NoMemory) → IfErr (output_or_fault made) IsCppStop
+told_stops (Ok output) h = tt
+told_stops (Err fault) h = h
+
+pub told_counts : (before now : ℕ) (made : Result (Vec ℕ) CppFault) → now ≡ before → StopCount before now (output_or_fault made)
+told_counts before now (Ok output) e = e
+told_counts before now (Err fault) e = e
 
 stored : (headers : Texts) (name : List ℕ) (source : Result (List ℕ) Answer) (error : StoreError) → ComesToOutput headers name source (Err (store_answer error))
 stored headers name source store.Failed = tt

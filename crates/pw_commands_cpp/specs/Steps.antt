@@ -1,6 +1,7 @@
 -- Steps of the command `cpp`.
 use Rattle.std.specs.Prelude.{◌≡◌, ◌≢◌, ℕ, List, Result, Ok, Err}
 use Rattle.std.specs.Global.{Vec}
+use Rattle.pw_cpp.specs.declared.fault.CppFault.{CppFault}
 use Rattle.pw_cpp_directives.specs.declared.fault.CppKind.{CppKind}
 use Rattle.pw_cpp_directives.specs.declared.fault.CppKind.TheVariants as kind
 use Rattle.pw_cpp_sources.specs.Sources.{Texts}
@@ -32,3 +33,8 @@ ComesToOutput headers name source (Ok output) = IsOutputOf headers name source o
 ComesToOutput headers name source (Err StoreFault) = Unit {0}
 ComesToOutput headers name source (Err NoMemory) = Unit {0}
 ComesToOutput headers name source (Err answer) = IsStopOf headers name source answer
+
+-- the code's answer for an output, or for a fault in its place
+abbrev pub output_or_fault : Result (Vec ℕ) CppFault → Result (Vec ℕ) Answer
+output_or_fault (Ok output) = Ok output
+output_or_fault (Err fault) = Err (Cpp fault)

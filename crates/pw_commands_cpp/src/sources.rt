@@ -5,7 +5,7 @@ ghost use Rattle.pw_commands.specs.Needed.{IsBadFile, Needs};
 ghost use Rattle.pw_commands.specs.Others.{KeepsOthers};
 ghost use Rattle.pw_commands.specs.Outcome.{IsFileStop, IsPutAnswer, Obeys, StopCount};
 ghost use Rattle.pw_commands_cpp.specs.Command.{CppEffect, IsCppAnswer, cpp_puts, needed_source};
-ghost use Rattle.pw_commands_cpp.specs.Steps.{ComesToOutput, IsCppStop};
+ghost use Rattle.pw_commands_cpp.specs.Steps.{ComesToOutput, IsCppStop, output_or_fault};
 ghost use Rattle.pw_io.specs.Files.{Keeps};
 ghost use Rattle.pw_store_modules.specs.FileNames.{text_name};
 ghost use Rattle.pw_store_modules.specs.Modules.{is_module_name};
@@ -15,6 +15,7 @@ ghost use Rattle.pw_top_answer.specs.Effects.{PutsFiles};
 ghost use Rattle.pw_top_answer.specs.Outcomes.{StoreCount};
 
 use pw_commands::put_file;
+use pw_cpp::CppFault;
 use pw_io::{Store, StoreError};
 use pw_law_cpp::one_output;
 use pw_store_modules::{TEXT_ENDING, module_file};
@@ -52,7 +53,18 @@ fn source_of<S: Store>(alloc: Global, store: &mut S, name: &Name) -> Result<Vec<
     }
 }
 
+/// An output, or the answer that tells its fault. Takes no memory.
+fn output_or_fault(made: Result<Vec<u8>, CppFault>) -> Result<Vec<u8>, Answer>
+    ensures { result ≡ output_or_fault made }
+{
+    match made {
+        Ok(output) => Ok(output),
+        Err(fault) => Err(Answer::Cpp(fault)),
+    }
+}
+
 /// What the preprocessor makes of a module's C source among the headers of a store, or the answer in its place.
+#[tactic(auto, using(crate::proofs::CppLemmas::output_told, crate::proofs::CppLemmas::told_stops, crate::proofs::CppLemmas::told_counts))]
 fn output_among<S: Store>(
     alloc: Global,
     store: &mut S,
@@ -66,10 +78,7 @@ fn output_among<S: Store>(
     ensures stop { IfErr result IsCppStop }
 {
     let mut headers = read_headers(alloc, store)?;
-    match preprocess_source(alloc, &mut headers, name, text)? {
-        Ok(output) => Ok(output),
-        Err(fault) => Err(Answer::Cpp(fault)),
-    }
+    output_or_fault(preprocess_source(alloc, &mut headers, name, text)?)
 }
 
 /// What the preprocessor makes of a module's C source, or the answer in its place.

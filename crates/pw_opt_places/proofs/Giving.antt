@@ -3,7 +3,7 @@ use Rattle.std.specs.Prelude.{ℕ, zero, suc, ◌≡◌, ◌≢◌, ◌+◌, ◌
 use Rattle.std.proofs.Common.{refl, sym, ap, subst, ◌∙◌, arith, inl, inr}
 use Rattle.std.proofs.lemmas.Bool.{cases_lt, cases_eq}
 use Rattle.std.proofs.lemmas.List.{get_or-set_same, get_or-set_other, get_or_past, length-replicate}
-use Rattle.std.proofs.lemmas.List.Elements.{Contains-get_or, All-more, All-weaker}
+use Rattle.std.proofs.lemmas.List.Elements.{Contains-get_or, All-from_get_or, All-more, All-weaker}
 use Rattle.pw_flow.specs.declared.flow.Block.{Block}
 use Rattle.pw_flow.specs.declared.flow.FlowFn.{FlowFn}
 use Rattle.pw_opt_places.specs.declared.homes.Home.{Home}
@@ -196,6 +196,13 @@ place_fits home.Everywhere names counts = (length names, refl)
 pub greatest_more : (numbers : List ℕ) (i old new : ℕ) → i < length numbers → All (λ n. n ≤ old) (take i numbers) → old ≤ new → slice_index_or numbers i 0 ≤ new → All (λ n. n ≤ new) (take (i + 1) numbers)
 greatest_more numbers i old new lt before up here =
     All-more (λ n. n ≤ new) numbers i 0 lt (All-weaker (λ n. n ≤ old) (λ n. n ≤ new) (λ n le. omega (arith, le, up)) (take i numbers) before) here
+
+pub greatest_least : (numbers : List ℕ) (i old new : ℕ) → i < length numbers → ((n : ℕ) → All (λ m. m ≤ n) numbers → old ≤ n) → ((n : ℕ) → old ≤ n → slice_index_or numbers i 0 ≤ n → new ≤ n)
+    → (n : ℕ) → All (λ m. m ≤ n) numbers → new ≤ n
+greatest_least numbers i old new lt before up n all = up n (before n all) (all i 0 lt)
+
+pub counts_few : (counts : List ℕ) (n : ℕ) → ((b : ℕ) → slice_index_or counts b 0 ≤ n) → All (λ m. m ≤ n) counts
+counts_few counts n each = All-from_get_or (λ m. m ≤ n) counts 0 (λ b lt. each b)
 
 pub greatest_few : (counts : List ℕ) (most : ℕ) → All (λ n. n ≤ most) counts → (b : ℕ) → slice_index_or counts b 0 ≤ most
 greatest_few counts most all b = elim (cases_lt b (length counts)) [

@@ -33,10 +33,11 @@ pub record AreGiven (places : List Place) (names counts : List ℕ) : Type 0 whe
   pub apart : (t u b j : ℕ) → place_of places t ≡ Own b j → place_of places u ≡ Own b j → t ≡ u
   pub fewer : (b : ℕ) → slice_index_or counts b 0 ≤ length places
 
--- and no block has more than so many
+-- and so many are the most that a block has
 pub record ArePlaces (places : List Place) (names counts : List ℕ) (own : ℕ) : Type 0 where
   pub given : AreGiven places names counts
   pub most : (b : ℕ) → slice_index_or counts b 0 ≤ own
+  pub least : (n : ℕ) → ((b : ℕ) → slice_index_or counts b 0 ≤ n) → own ≤ n
 
 -- an operation defines what is at home in a block
 abbrev pub DefinesAtHome : List Place → ℕ → Op → Type 0

@@ -1,6 +1,6 @@
 //! Places of temporaries in rows of what is known.
 
-ghost use Rattle.std.specs.Prelude.{◌≡◌, [], ◌<◌, ◌≤◌, All, IfOk, OnOk, length, slice_index_or};
+ghost use Rattle.std.specs.Prelude.{◌≡◌, [], ◌<◌, ◌≤◌, ℕ, All, IfOk, OnOk, length, slice_index_or};
 ghost use Rattle.pw_opt_places.specs.declared.places.Place.TheVariants as place;
 ghost use Rattle.pw_opt_places.specs.Giving.{AreGivenIn, HasPlace, IsHomeBelow, ArePlacesFor, place_for};
 ghost use Rattle.pw_opt_places.specs.Places.{place_of, ArePlaces, ArePlacesOf};
@@ -129,13 +129,15 @@ impl Given {
 fn larger(a: usize, b: usize) -> usize
     ensures first { a ≤ result }
     ensures second { b ≤ result }
+    ensures least { (n : ℕ) → a ≤ n → b ≤ n → result ≤ n }
 {
     if a < b { b } else { a }
 }
 
 /// The greatest of some numbers, or 0.
 fn greatest(numbers: &[usize]) -> usize
-    ensures { All (λ n. n ≤ result) numbers.now }
+    ensures bound { All (λ n. n ≤ result) numbers.now }
+    ensures least { (n : ℕ) → All (λ m. m ≤ n) numbers.now → result ≤ n }
 {
     let mut most = 0;
     for &n in numbers {

@@ -5,7 +5,7 @@ use Rattle.pw_opt_places.proofs.Giving.{none_given}
 use Rattle.pw_opt_places.proofs.places.Places.none.Goals as goal
 
 no_places : ArePlaces [] [] [] 0
-no_places = record { given = none_given 0; most = λ b. omega arith }
+no_places = record { given = none_given 0; most = λ b. omega arith; least = λ n each. omega arith }
 
 pub invariant_of-result : goal.invariant_of-result
 invariant_of-result c =
