@@ -5,7 +5,7 @@ mod Composition
 mod Frames
 mod Guarding
 mod Holding
-mod Roomless
+pub mod Roomless
 pub mod Starts
 pub mod Fitting
 pub mod MapFrames

@@ -36,7 +36,7 @@ items_stay : (q : flows.Program) (items : List (ℕ × Item)) → AllByRecursion
 items_stay q [] h = tt
 items_stay q (i ∷ rest) h = (item_stays q i.1 h.0, items_stay q rest h.1)
 
-program_stays : (q : flows.Program) → IsProgram q → IsProgram (roomless q)
+pub program_stays : (q : flows.Program) → IsProgram q → IsProgram (roomless q)
 program_stays q is = record {
   modules = is.modules;
   order = is.order;

@@ -11,7 +11,8 @@ use Rattle.pw_law_truth.specs.Truth.{ShowsTruth}
 use Rattle.pw_law_whole.specs.Programs.{flow_of, flows_in, functions_under}
 use Rattle.pw_law_whole_truth.proofs.Globals.{forms_globals, lowered_globals}
 use Rattle.pw_law_whole_truth.proofs.Places.{all_located}
-use Rattle.pw_law_whole_truth.proofs.Roomless.{program_stays, roomless_graph}
+use Rattle.pw_law_layers.proofs.Roomless.{program_stays}
+use Rattle.pw_law_whole_truth.proofs.Roomless.{roomless_graph}
 use Rattle.pw_law_whole_truth.proofs.Texts.{made_of}
 use Rattle.pw_law_whole_truth.proofs.laws.full_builds_tell_the_truth.Goals as goal
 
