@@ -86,8 +86,17 @@ reads-less few source text mode parameters replacement place old new p q read kn
       further = less.0;
       within = within;
       few =
-          omega (arith, less.1, ap weight_named found.3, raws_named source known (reverse read.waiting), raws_reverse read.waiting, waiting_few source replacement parameters (arguments_of parameters found.0),
-          given_few parameters found.0, hand_length known old, hand_length known new);
+          omega (
+            arith,
+            less.1,
+            ap weight_named found.3,
+            raws_named source known (reverse read.waiting),
+            raws_reverse read.waiting,
+            waiting_few source replacement parameters (arguments_of parameters found.0),
+            given_few parameters found.0,
+            hand_length known old,
+            hand_length known new,
+          );
       produced = less.2;
     }
 

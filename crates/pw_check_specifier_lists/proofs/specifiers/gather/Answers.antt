@@ -19,10 +19,10 @@ loop-next-init g c = (
 
 pub loop-next-preserved : goal.loop-next-preserved
 loop-next-preserved g c = (
-    turn_kept (over_specifiers c.args.first) (next_specifier c.args.first) (λ x rest. specifier_split x (view_specifiers rest) c.args.first)
-    c.args.specifiers.now c.loop-next.next-index c.next-item.result (view_gathered c.loop-next.gathered) (view_state c.loop-next.state)
-    c.loop-next.invariant.0 (omega arith) c.next-item.is c.specifier.ensures c.in_ok-gathered.was,
-    one-more (view_gathered c.loop-next.gathered) _ _ _ _ _ c.loop-next.next-index (made_by c.specifier.ensures c.in_ok-gathered.was) c.loop-next.invariant.1,
+  turn_kept (over_specifiers c.args.first) (next_specifier c.args.first) (λ x rest. specifier_split x (view_specifiers rest) c.args.first)
+      c.args.specifiers.now c.loop-next.next-index c.next-item.result (view_gathered c.loop-next.gathered) (view_state c.loop-next.state)
+      c.loop-next.invariant.0 (omega arith) c.next-item.is c.specifier.ensures c.in_ok-gathered.was,
+  one-more (view_gathered c.loop-next.gathered) _ _ _ _ _ c.loop-next.next-index (made_by c.specifier.ensures c.in_ok-gathered.was) c.loop-next.invariant.1,
 )
 
 pub returns-in_err-gathered : goal.returns-in_err-gathered

@@ -9,8 +9,9 @@ loop-n-init c = (All-nil _, λ n all. omega arith)
 
 pub loop-n-preserved : goal.loop-n-preserved
 loop-n-preserved c = (
-    greatest_more c.args.numbers.now c.loop-n.n-index c.loop-n.most c.larger-most.result c.loop-n-test.true c.loop-n.invariant.0 c.larger-most.ensures.first c.larger-most.ensures.second,
-    greatest_least c.args.numbers.now c.loop-n.n-index c.loop-n.most c.larger-most.result c.loop-n-test.true c.loop-n.invariant.1 c.larger-most.ensures.least)
+  greatest_more c.args.numbers.now c.loop-n.n-index c.loop-n.most c.larger-most.result c.loop-n-test.true c.loop-n.invariant.0 c.larger-most.ensures.first c.larger-most.ensures.second,
+  greatest_least c.args.numbers.now c.loop-n.n-index c.loop-n.most c.larger-most.result c.loop-n-test.true c.loop-n.invariant.1 c.larger-most.ensures.least,
+)
 
 pub returns-clause-bound : goal.returns-clause-bound
 returns-clause-bound c = subst (All (λ n. n ≤ c.loop-n.most)) (take_all c.loop-n.n-index c.args.numbers.now c.loop-n-test.false) c.loop-n.invariant.0

@@ -77,6 +77,10 @@ returns-clause-left c =
     let less = looks-less c.lines_go_on.ensures.tokens c.args.ground.text.now c.mode_in-mode.result c.args.self.now.pending c.look_ahead.new.pending c.args.progress.now c.look_ahead.new.progress c.args.sets.now c.requires.ready.empty
     c.in_ok-look_ahead.ensures.within c.in_ok-look_ahead.ensures.answers in
     if-most c.put_out-2.result _ (left (length c.args.ground.text.now) (record c.args.self.now { pending = c.push.new.self }) c.look_ahead.new.progress) (left (length c.args.ground.text.now) c.args.self.now c.args.progress.now)
-    (omega (arith, taken-left (length c.args.ground.text.now) c.args.self.now c.args.progress.now c.look_ahead.new.progress c.args.self.now.pending c.look_ahead.new.pending c.pop.new.self c.in-Some.first c.in-Some.ensures less,
-    ap length c.in_ok-push.ensures, length-append c.pop.new.self (c.in-Some.first ∷ [])))
+    (omega (
+      arith,
+      taken-left (length c.args.ground.text.now) c.args.self.now c.args.progress.now c.look_ahead.new.progress c.args.self.now.pending c.look_ahead.new.pending c.pop.new.self c.in-Some.first c.in-Some.ensures less,
+      ap length c.in_ok-push.ensures,
+      length-append c.pop.new.self (c.in-Some.first ∷ []),
+    ))
     (out-left (length c.args.ground.text.now) (record c.args.self.now { pending = c.push.new.self }) c.look_ahead.new.progress c.args.ground.mode c.args.name c.put_out-2.new.self c.put_out-2.new.progress c.put_out-2.result c.put_out-2.ensures)

@@ -67,8 +67,12 @@ returns-in_default-clause-left c =
     if-most c.replace_call.result _
     (left (length c.args.ground.text.now) (record c.args.self.now { pending = c.replace-behind.new.dest; out = c.replace-before.new.dest }) c.read_call.new.progress + length c.replace-behind.result)
     (left (length c.args.ground.text.now) c.args.self.now c.args.progress.now + 1)
-    (omega (arith, none-left (length c.args.ground.text.now) c.args.self.now c.args.progress.now c.read_call.new.progress c.args.self.now.pending c.read_call.new.pending (left_of_raws c.in_ok-read.read.waiting) less,
-    ap length c.replace-behind.ensures.value, ap length (c.replace-behind.ensures.after ∙ c.new.ensures)))
+    (omega (
+      arith,
+      none-left (length c.args.ground.text.now) c.args.self.now c.args.progress.now c.read_call.new.progress c.args.self.now.pending c.read_call.new.pending (left_of_raws c.in_ok-read.read.waiting) less,
+      ap length c.replace-behind.ensures.value,
+      ap length (c.replace-behind.ensures.after ∙ c.new.ensures),
+    ))
     c.replace_call.ensures.left
 
 pub returns-clause-left : goal.returns-clause-left
