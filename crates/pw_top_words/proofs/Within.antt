@@ -6,6 +6,7 @@ use Rattle.std.proofs.lemmas.Bool.Decides.{nat_tests}
 use Rattle.pw_value.specs.Limits.{stack_least, stack_limit}
 use Rattle.pw_store_modules.specs.Modules.{is_module_name}
 use Rattle.pw_build_opts.specs.declared.opts.RunOpts.{RunOpts}
+use Rattle.pw_build_opts.specs.Options.{AreOpts}
 use Rattle.pw_top_words.specs.declared.commands.Command.{Command}
 use Rattle.pw_top_words.specs.declared.commands.Command.TheVariants.{Go, Build, Session, PhaseOne, Analyse, PhaseTwo, Link, Run, List as ListImage, Db, Bench, Where, Preprocess, Interp}
 use Rattle.pw_top_switch.specs.Switch.{Text, is_switched, unswitched}
@@ -94,11 +95,14 @@ any_within make (Some n) k = some_within (make n) (k n)
 
 -- the numbers of a build and a run, for each command that has them
 abbrev Runs : (RunOpts → Command) → Type 0
-Runs say = (c s n : ℕ) (o : Bool) → c ≤ colour_limit → IsStack s → IsWithin (say (run_with c s o n))
+Runs say = (c s n : ℕ) (o : Bool) → AreOpts (built_with c s o) → IsWithin (say (run_with c s o n))
+
+are_options : (c s : ℕ) (o : Bool) → c ≤ colour_limit → IsStack s → AreOpts (built_with c s o)
+are_options c s o few is = record { colours = few; least = is.0; most = is.1 }
 
 stacked : (say : RunOpts → Command) (o : Bool) (c : ℕ) (given : Option ℕ) (parts : List Part) → Runs say → c ≤ colour_limit → IsIn stack_least stack_limit given → Within (option_and_then (λ s. option_map (λ n. say (run_with c s o n)) (steps_in parts)) given)
 stacked say o c None parts all h k = none_within
-stacked say o c (Some s) parts all h k = any_within (λ n. say (run_with c s o n)) (steps_in parts) (λ n. all c s n o h k)
+stacked say o c (Some s) parts all h k = any_within (λ n. say (run_with c s o n)) (steps_in parts) (λ n. all c s n o (are_options c s o h k))
 
 coloured : (say : RunOpts → Command) (o : Bool) (given : Option ℕ) (parts : List Part) → Runs say → IsIn 0 colour_limit given → Within (option_and_then (λ c. option_and_then (λ s. option_map (λ n. say (run_with c s o n)) (steps_in parts)) (stack_in parts)) given)
 coloured say o None parts all h = none_within
@@ -108,14 +112,14 @@ run_options_within : (say : RunOpts → Command) (o : Bool) (parts : List Part) 
 run_options_within say o parts all = coloured say o (colours_in parts) parts all (colours_are_in parts)
 
 go_within : (o : Bool) (words : List Text) → Within (go_of o words)
-go_within o words = parts_within (parts_of (colours ∷ stack ∷ steps ∷ []) 0 words) (with_run Go o) (λ parts. run_options_within Go o parts (λ c s n o h k. (h, k)))
+go_within o words = parts_within (parts_of (colours ∷ stack ∷ steps ∷ []) 0 words) (with_run Go o) (λ parts. run_options_within Go o parts (λ c s n o are. are))
 
 session_within : (o : Bool) (words : List Text) → Within (session_of o words)
-session_within o words = parts_within (parts_of (colours ∷ stack ∷ steps ∷ []) 0 words) (with_run Session o) (λ parts. run_options_within Session o parts (λ c s n o h k. (h, k)))
+session_within o words = parts_within (parts_of (colours ∷ stack ∷ steps ∷ []) 0 words) (with_run Session o) (λ parts. run_options_within Session o parts (λ c s n o are. are))
 
 seeded : (o : Bool) (given : Option ℕ) (parts : List Part) → Within (option_and_then (λ x. with_run (Bench x) o parts) given)
 seeded o None parts = none_within
-seeded o (Some x) parts = run_options_within (Bench x) o parts (λ c s n o h k. (h, k))
+seeded o (Some x) parts = run_options_within (Bench x) o parts (λ c s n o are. are)
 
 bench_within : (o : Bool) (words : List Text) → Within (bench_of o words)
 bench_within o words =
@@ -128,7 +132,7 @@ call_is_in (Some text) = number_is_in 1 call_limit text
 
 called : (o : Bool) (given : Option ℕ) (parts : List Part) → IsIn 1 call_limit given → Within (option_and_then (λ k. with_run (Where k) o parts) given)
 called o None parts h = none_within
-called o (Some k) parts h = run_options_within (Where k) o parts (λ c s n o few is_stack. (omega (arith, h.0), (few, is_stack)))
+called o (Some k) parts h = run_options_within (Where k) o parts (λ c s n o are. (omega (arith, h.0), are))
 
 where_within : (o : Bool) (words : List Text) → Within (where_of o words)
 where_within o words =
@@ -136,12 +140,12 @@ where_within o words =
     (λ parts. called o (call_in parts) parts (call_is_in (plain_word parts)))
 
 interp_within : (o : Bool) (words : List Text) → Within (interp_of o words)
-interp_within o words = parts_within (parts_of (colours ∷ stack ∷ steps ∷ []) 0 words) (with_run Interp o) (λ parts. run_options_within Interp o parts (λ c s n o h k. (h, k)))
+interp_within o words = parts_within (parts_of (colours ∷ stack ∷ steps ∷ []) 0 words) (with_run Interp o) (λ parts. run_options_within Interp o parts (λ c s n o are. are))
 
 -- the numbers of a build
 built : (o : Bool) (c : ℕ) (given : Option ℕ) → c ≤ colour_limit → IsIn stack_least stack_limit given → Within (option_map (λ s. Build (built_with c s o)) given)
 built o c None h k = none_within
-built o c (Some s) h k = some_within (Build (built_with c s o)) (h, k)
+built o c (Some s) h k = some_within (Build (built_with c s o)) (are_options c s o h k)
 
 build_options_within : (o : Bool) (given : Option ℕ) (parts : List Part) → IsIn 0 colour_limit given → Within (option_and_then (λ c. option_map (λ s. Build (built_with c s o)) (stack_in parts)) given)
 build_options_within o None parts h = none_within
