@@ -97,7 +97,20 @@ ext_spells = one_spells ext_number ext_kinds (refl, (refl, (refl, (refl, tt)))) 
 
 code_back : (c : OpCode) → slice_get op_codes (code_number c) ≡ Some c
 code_back code.Const = refl
-code_back c = refl
+code_back code.Copy = refl
+code_back code.Un = refl
+code_back code.Bin = refl
+code_back code.Ext = refl
+code_back code.AddrGlobal = refl
+code_back code.AddrSlot = refl
+code_back code.AddrFn = refl
+code_back code.LoadG = refl
+code_back code.StoreG = refl
+code_back code.Load = refl
+code_back code.Store = refl
+code_back code.Move = refl
+code_back code.Call = refl
+code_back code.CallInd = refl
 
 pub code_spells : Spells (λ c. u8 (code_number c)) Any (one_of_at op_codes)
 code_spells = one_spells code_number op_codes (refl, (refl, (refl, (refl, (refl, (refl, (refl, (refl, (refl, (refl, (refl, (refl, (refl, (refl, (refl, tt))))))))))))))) code_back
