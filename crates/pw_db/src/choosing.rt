@@ -10,7 +10,7 @@ use pw_value::Name;
 use std::alloc::{AllocError, Global};
 
 impl Web {
-    /// Another web of the same.
+    /// A copy of the web.
     pub fn copy(&self, alloc: Global) -> Result<Web, AllocError>
         ensures { IfOk result (λ w. w ≡ self.now) }
     {
@@ -55,7 +55,7 @@ impl Directives {
         !self.webs.is_empty() || (!self.free.is_empty() || !self.saves.is_empty())
     }
 
-    /// The same directives again.
+    /// A copy of the directives.
     pub fn copy(&self, alloc: Global) -> Result<Directives, AllocError>
         ensures { IfOk result (λ d. d ≡ self.now) }
     {

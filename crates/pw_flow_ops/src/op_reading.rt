@@ -274,7 +274,7 @@ fn read_op<'a>(
     read_operands(alloc, names, at, code, rest)
 }
 
-/// So many operations.
+/// Reads as many operations as `count` says, and answers them with what is behind them.
 pub fn read_ops<'a>(
     alloc: Global,
     names: &[Name],

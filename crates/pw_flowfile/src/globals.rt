@@ -21,10 +21,12 @@ use pw_value::program_names::StartName;
 use pw_value::{Kind, Name, Shape};
 use std::alloc::Global;
 
-/// Which item follows.
+/// Which item of an object follows, in the order of their bytes.
 #[derive(Clone, Copy)]
 pub enum ItemForm {
+    /// `Item::Bytes`
     Bytes,
+    /// `Item::Address`
     Address,
 }
 
@@ -193,7 +195,7 @@ fn read_global<'a>(
     read_global_body(alloc, StartName::Refused, names, name, rest)
 }
 
-/// So many objects.
+/// Reads as many objects as `count` says, and answers them with what is behind them.
 pub fn read_globals<'a>(
     alloc: Global,
     names: &[Name],
@@ -245,7 +247,7 @@ fn read_declaration<'a>(
     read_declared_shape(alloc, name, rest)
 }
 
-/// So many declared names.
+/// Reads as many declared names, each with its shape, as `count` says, and answers them with what is behind them.
 pub fn read_declared<'a>(
     alloc: Global,
     names: &[Name],

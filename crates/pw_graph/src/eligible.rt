@@ -42,7 +42,7 @@ pub fn escaped_names(alloc: Global, summaries: &[Summary]) -> Result<Vec<Name>, 
     table_of(alloc, names)
 }
 
-/// Whether a name is one of these.
+/// Whether a name stands in a list of names in byte order.
 pub fn is_among(names: &[Name], name: &Name) -> bool
     requires { IsRisingFrom [] names.now }
     ensures { result ≡ among names.now name.now }

@@ -20,7 +20,7 @@ impl<T> Model for Boxed<T> {
 }
 
 impl<T> Boxed<T> {
-    /// The value in place.
+    /// A reference to the value in the box.
     pub fn get(&self) -> &T
         ensures { result.now ≡ self.now }
     {

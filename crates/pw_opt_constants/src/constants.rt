@@ -62,7 +62,7 @@ fn constant_in(op: &Op, known: Flat) -> Option<Op>
     }
 }
 
-/// The rewriting by constants.
+/// Rewriting by constants. It holds no places, and a row of nothing known, by which an operation is copied.
 #[derive(Drop)]
 pub struct Constants {
     nowhere: Places,
@@ -82,7 +82,7 @@ impl Constants {
         Ok(Constants { nowhere, nothing })
     }
 
-    /// The same operation again.
+    /// A copy of an operation.
     pub fn same(&self, alloc: Global, op: &Op) -> Result<Op, NoMemory>
         ensures { IfOk result (λ o. o ≡ op.now) }
     {

@@ -10,7 +10,7 @@ use std::marker::Model;
 /// The words of a page.
 const PAGE: usize = 1024;
 
-/// The bytes of a page.
+/// The number of bytes of each page of the memory.
 pub const PAGE_BYTES: usize = 4096;
 
 /// A memory: its bytes, from address 0 on.

@@ -96,7 +96,7 @@ pub(crate) fn function_entries(
     Ok(entries)
 }
 
-/// What a module declares.
+/// The names that a module declares, each with its shape, in byte order.
 pub(crate) fn declared_of(
     alloc: Global,
     declared: &[(Name, Shape)],

@@ -6,37 +6,69 @@ ghost use Rattle.pw_token.specs.Words as spec;
 /// A keyword (C90 6.1.1).
 #[derive(Clone, Copy, PartialEq, Eq)]
 pub enum Keyword {
+    /// `auto`
     Auto,
+    /// `break`
     Break,
+    /// `case`
     Case,
+    /// `char`
     Char,
+    /// `const`
     Const,
+    /// `continue`
     Continue,
+    /// `default`
     Default,
+    /// `do`
     Do,
+    /// `double`
     Double,
+    /// `else`
     Else,
+    /// `enum`
     Enum,
+    /// `extern`
     Extern,
+    /// `float`
     Float,
+    /// `for`
     For,
+    /// `goto`
     Goto,
+    /// `if`
     If,
+    /// `int`
     Int,
+    /// `long`
     Long,
+    /// `register`
     Register,
+    /// `return`
     Return,
+    /// `short`
     Short,
+    /// `signed`
     Signed,
+    /// `sizeof`
     Sizeof,
+    /// `static`
     Static,
+    /// `struct`
     Struct,
+    /// `switch`
     Switch,
+    /// `typedef`
     Typedef,
+    /// `union`
     Union,
+    /// `unsigned`
     Unsigned,
+    /// `void`
     Void,
+    /// `volatile`
     Volatile,
+    /// `while`
     While,
 }
 
@@ -214,7 +246,7 @@ impl Keyword {
         }
     }
 
-    /// The one with these bytes.
+    /// The one that is spelled with these bytes, where there is one.
     #[tactic(auto, unfolding(crate::specs::Words::keyword_of))]
     pub fn with_text(text: &[u8]) -> Option<Keyword>
         ensures { result ≡ spec.keyword_of text.now }
@@ -230,7 +262,7 @@ impl Keyword {
     }
 }
 
-/// The marks of the grammar.
+/// All marks, in the order of their type.
 pub const MARKS: [Mark; 46] = [
     Mark::OpenBracket,
     Mark::CloseBracket,
@@ -335,7 +367,7 @@ impl Mark {
         }
     }
 
-    /// The one with these bytes.
+    /// The one that is spelled with these bytes, where there is one.
     #[tactic(auto, unfolding(crate::specs::Words::mark_of))]
     pub fn with_text(text: &[u8]) -> Option<Mark>
         ensures { result ≡ spec.mark_of text.now }
