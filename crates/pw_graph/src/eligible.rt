@@ -106,7 +106,7 @@ fn collected<'a>(
     Ok(found)
 }
 
-/// Those of all modules, in byte order.
+/// The eligible globals of all modules, in the byte order of their names.
 pub(crate) fn eligible<'a>(
     alloc: Global,
     summaries: &'a [Summary],

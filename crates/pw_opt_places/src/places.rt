@@ -159,7 +159,7 @@ impl Places {
         }
     }
 
-    /// Those of the temporaries of a function.
+    /// The places of the temporaries of a function.
     ///
     /// # Errors
     ///

@@ -41,7 +41,7 @@ fn word_of(page: &[u32; PAGE], i: usize) -> u32
 }
 
 impl Pages {
-    /// So many pages of bytes of 0.
+    /// A memory of so many pages, of which each byte is 0.
     pub fn blank(alloc: Global, pages: usize) -> Result<Pages, AllocError>
         ensures { IfOk result (λ p. p ≡ zeros (4096 * pages)) }
     {
