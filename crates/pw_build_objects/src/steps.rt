@@ -34,7 +34,7 @@ impl<L: Ledger> Steps<L> {
         Steps { book, share }
     }
 
-    /// Counts one more.
+    /// Counts one object more that is made.
     pub fn step(&mut self)
         ensures { self.new ≡ self.old + 1 }
     {

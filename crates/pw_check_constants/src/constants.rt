@@ -20,7 +20,9 @@ use std::alloc::{AllocError, Global};
 /// Where the value of an expression is to be sought: it is known, or an operator makes it of the first operand.
 #[derive(Clone, Copy)]
 pub enum Turn<'a> {
+    /// The value is known, or there is none.
     Ends(Constancy),
+    /// The operator makes the value of that of this first operand.
     Goes(Frame, &'a TExpr),
 }
 

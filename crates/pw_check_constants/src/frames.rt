@@ -13,9 +13,13 @@ use pw_types::{BinaryOperator, IntKind, LogicOperator, UnaryOperator};
 /// are.
 #[derive(Clone, Copy)]
 pub enum Frame {
+    /// A unary operator, with the type of its operand.
     Unary(UnaryOperator, IntKind),
+    /// A binary operator, whether its first operand is signed, and what the second is.
     Binary(BinaryOperator, bool, Constancy),
+    /// `&&` or `||`, and what the second operand is.
     Logic(LogicOperator, Constancy),
+    /// `?:`, and what the second and the third operand are.
     Choice(Constancy, Constancy),
     /// A conversion to this type.
     Cast(IntKind),

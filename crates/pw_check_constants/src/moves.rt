@@ -12,8 +12,11 @@ use pw_value::words::{is_negative, magnitude};
 /// A move of an address: so many bytes on or back, or to no place, because the number is not known.
 #[derive(Clone, Copy)]
 pub enum Move {
+    /// So many bytes on.
     On(u128),
+    /// So many bytes back.
     Back(u128),
+    /// To no place: the number is not known.
     Nowhere,
 }
 
@@ -76,7 +79,8 @@ impl Move {
         }
     }
 
-    /// The place that it leads to, from one that there is.
+    /// The place to which the move leads from another: none from none, and none where the move is not known or leaves
+    /// the object.
     pub fn taken(self, place: Option<Place>) -> Option<Place>
         ensures { option_map view_place result ≡ option_and_then (spec.taken self) (option_map view_place place.entry) }
     {

@@ -5,7 +5,9 @@ use pw_typed::Symbol;
 /// What a place lies in: an object or function by its symbol, or the hidden object of a string by its number.
 #[derive(Clone, Copy)]
 pub enum Base<'t> {
+    /// The object or function of this symbol.
     Named(&'t Symbol),
+    /// The hidden object of this number, which holds a string.
     Text(u32),
 }
 
@@ -21,6 +23,8 @@ pub struct Place<'t> {
 /// Whether an expression is asked for its value, as an address, or for the place that it denotes.
 #[derive(Clone, Copy)]
 pub enum Asked {
+    /// Its value, a pointer, is asked for.
     Address,
+    /// The place that it denotes is asked for.
     Place,
 }

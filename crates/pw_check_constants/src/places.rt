@@ -20,8 +20,11 @@ use std::alloc::{AllocError, Global};
 /// Where the place of an expression is to be sought: it is known, or it is that of an operand, or a move from that.
 #[derive(Clone, Copy)]
 pub enum Way<'t> {
+    /// The place is known, or there is none.
     Ends(Option<Place<'t>>),
+    /// The place is that of this operand, asked for so.
     Through(Asked, &'t TExpr),
+    /// The place is a move from that of this operand, which is asked for so.
     Moves(Move, &'t TExpr, Asked),
 }
 

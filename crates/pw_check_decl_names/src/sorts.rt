@@ -18,11 +18,17 @@ use pw_types::QType;
 /// and one of automatic storage duration.
 #[derive(Clone, Copy)]
 pub enum Sort {
+    /// A typedef name (C90 6.5.6).
     ATypedef,
+    /// A function.
     AFunction,
+    /// An object at file scope.
     AGlobal,
+    /// An object that a block declares `extern`.
     AnExtern,
+    /// A static object of a block.
     AStatic,
+    /// An object of a block of automatic storage duration.
     ALocal,
 }
 

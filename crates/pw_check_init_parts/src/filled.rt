@@ -36,7 +36,7 @@ pub struct Filled {
 }
 
 impl Filled {
-    /// Nothing is given yet.
+    /// An object to which no initialiser has given anything yet.
     pub fn nothing(alloc: Global) -> Filled
         ensures { view_filled result ≡ spec.nothing_filled }
     {
@@ -46,8 +46,8 @@ impl Filled {
         }
     }
 
-    /// The same with an expression more, and its bytes at an offset, if there are any. An offset that 32 bits cannot
-    /// count answers want of memory.
+    /// What is given with one expression more, and its bytes at an offset, if there are any. An offset that 32 bits
+    /// cannot count answers want of memory.
     #[tactic(auto, using(pw_check_state::proofs::PlaceLemmas::map_push))]
     pub fn with(
         mut self,

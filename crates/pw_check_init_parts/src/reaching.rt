@@ -18,7 +18,9 @@ use std::alloc::{AllocError, Global};
 /// own type.
 #[derive(Clone, Copy)]
 pub enum Takes<'t> {
+    /// An array of characters, which a string initialises.
     Characters,
+    /// A structure or union of this type, which an expression of the same type initialises.
     Record(&'t CType),
 }
 

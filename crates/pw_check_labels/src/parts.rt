@@ -40,7 +40,7 @@ pub trait BodyParts<'a> {
         requires { can_check self.now }
         ensures { Leads view_made (declarations.decls_rule (view_decls decls.now)) (view_state state.old) result (view_state state.new) };
 
-    /// A smaller statement.
+    /// A statement that stands in another one (C90 6.6).
     fn stmt(
         &self,
         alloc: Global,

@@ -20,7 +20,7 @@ use pw_typed::{Symbol, TForm};
 use pw_types::{CType, QType};
 use std::alloc::{AllocError, Global};
 
-/// An operand that is an lvalue, by its node.
+/// The operand that an lvalue is, from what its node is made of; `register` says whether it was declared so.
 #[tactic(auto, unfolding(pw_typed::specs::Views::view_form, pw_types::specs::Views::view_type))]
 pub(crate) fn lvalue_operand(
     alloc: Global,

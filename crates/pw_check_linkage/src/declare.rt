@@ -24,8 +24,11 @@ use std::alloc::{AllocError, Global};
 /// visible one; external.
 #[derive(Clone, Copy)]
 pub enum Asking {
+    /// `static` at file scope: internal linkage.
     AsInternal,
+    /// The linkage of an earlier visible declaration; external where there is none.
     AsBefore,
+    /// External linkage.
     AsExternal,
 }
 

@@ -32,7 +32,7 @@ impl Model for CaseList {
 }
 
 impl CaseList {
-    /// No cases.
+    /// A switch without cases.
     pub fn new(alloc: Global) -> CaseList
         ensures { result ≡ [] }
     {
@@ -53,7 +53,7 @@ impl CaseList {
         Ok(())
     }
 
-    /// Whether one of them has a value.
+    /// Whether a case has this value.
     pub fn contains(&self, value: u32) -> bool
         ensures { result ≡ list_any (λ c. c.value == value) self.now }
     {

@@ -7,6 +7,7 @@ use pw_types::{IntKind, QType};
 /// What an identifier of the ordinary name space is declared as.
 #[derive(Drop)]
 pub enum Entity {
+    /// A typedef name, with its type.
     TypeName(QType),
     /// Its value as an int.
     EnumerationConstant(u32),

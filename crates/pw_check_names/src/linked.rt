@@ -25,7 +25,7 @@ impl<'a> LinkedNames<'a> {
     ghost use Rattle.pw_check_names.specs.LinkedViews.{linked_names, changed_at};
     ghost use Rattle.pw_check_names.specs.EntityViews.{view_linked};
 
-    /// No names.
+    /// An empty list.
     pub fn new(alloc: Global) -> LinkedNames<'a>
         ensures { linked_names result ≡ [] }
     {
@@ -42,21 +42,21 @@ impl<'a> LinkedNames<'a> {
         self.items.as_slice()
     }
 
-    /// A name by its place.
+    /// The name with linkage at a place, where there is one.
     pub fn get(&self, place: u32) -> Option<&LinkedName<'a>>
         ensures { option_map view_linked (option_copied result) ≡ slice_get (linked_names self.now) place }
     {
         self.items.get(place as usize)
     }
 
-    /// The place of a name.
+    /// The first place that has a name, where there is one.
     pub fn position(&self, name: &[u8]) -> Option<u32>
         ensures { result ≡ position (λ l. bytes_eq l.name name.now) (linked_names self.now) }
     {
         self.names.position(name)
     }
 
-    /// A name more.
+    /// Adds a name with linkage at the end.
     pub fn push(&mut self, linked: LinkedName<'a>) -> Result<(), AllocError>
         ensures { OnOk result (linked_names self.new ≡ linked_names self.old ++ view_linked linked.entry ∷ []) }
     {

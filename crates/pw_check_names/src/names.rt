@@ -32,7 +32,7 @@ impl<'a> Model for NameList<'a> {
 }
 
 impl<'a> NameList<'a> {
-    /// No names.
+    /// An empty list.
     pub fn new(alloc: Global) -> NameList<'a>
         ensures { result ≡ [] }
     {
@@ -61,21 +61,21 @@ impl<'a> NameList<'a> {
         self.places.visible(name)
     }
 
-    /// Whether a name came.
+    /// Whether a name stands in the list.
     pub fn contains(&self, name: &[u8]) -> bool
         ensures { result ≡ list_any (bytes_eq name.now) self.now }
     {
         self.position(name).is_some()
     }
 
-    /// How many there are.
+    /// How many names the list has.
     pub fn len(&self) -> usize
         ensures { result ≡ length self.now }
     {
         self.names.len()
     }
 
-    /// The name at a place.
+    /// The name at a place of the list, where there is one.
     pub fn get(&self, place: usize) -> Option<&'a [u8]>
         ensures { option_copied result ≡ slice_get self.now place }
     {

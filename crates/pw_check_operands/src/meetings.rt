@@ -20,14 +20,14 @@ pub fn both_integral(a: &TExpr, b: &TExpr) -> bool
     is_integral(&a.ty.ty) && is_integral(&b.ty.ty)
 }
 
-/// Whether they are a pointer to an object, and a number.
+/// Whether the first operand is a pointer to an object, and the second a number.
 pub fn pointer_and_number(types: &Types, a: &TExpr, b: &TExpr) -> bool
     ensures { result ≡ spec.pointer_and_number types.now (view_expr a.now) (view_expr b.now) }
 {
     points_to_object(types, &a.ty.ty) && is_integral(&b.ty.ty)
 }
 
-/// Whether they are pointers to what is compatible, qualifiers aside.
+/// Whether both operands are pointers to what is compatible, qualifiers aside.
 pub fn pointers_agree(a: &TExpr, b: &TExpr) -> bool
     ensures { result ≡ spec.pointers_agree (view_expr a.now) (view_expr b.now) }
 {
@@ -36,21 +36,21 @@ pub fn pointers_agree(a: &TExpr, b: &TExpr) -> bool
         && compatible_types(target_type(&a.ty.ty), target_type(&b.ty.ty))
 }
 
-/// Whether they are such pointers to objects.
+/// Whether both operands are pointers to objects that are compatible, qualifiers aside.
 pub fn points_into_objects(types: &Types, a: &TExpr, b: &TExpr) -> bool
     ensures { result ≡ spec.points_into_objects types.now (view_expr a.now) (view_expr b.now) }
 {
     pointers_agree(a, b) && points_to_object(types, &a.ty.ty) && points_to_object(types, &b.ty.ty)
 }
 
-/// Whether they are a pointer to an object or void, and a pointer to void.
+/// Whether the first operand is a pointer to an object or void, and the second a pointer to void.
 pub fn pointer_and_void(a: &TExpr, b: &TExpr) -> bool
     ensures { result ≡ spec.pointer_and_void (view_expr a.now) (view_expr b.now) }
 {
     is_pointer(&a.ty.ty) && !points_to_function(&a.ty.ty) && points_to_void(&b.ty.ty)
 }
 
-/// Whether they are a pointer, and a null pointer constant.
+/// Whether the first operand is a pointer, and the second a null pointer constant (C90 6.2.2.3).
 pub fn pointer_and_null(alloc: Global, a: &TExpr, b: &TExpr) -> Result<bool, AllocError>
     ensures { IfOk result (λ holds. holds ≡ spec.pointer_and_null (view_expr a.now) (view_expr b.now)) }
 {
@@ -60,7 +60,8 @@ pub fn pointer_and_null(alloc: Global, a: &TExpr, b: &TExpr) -> Result<bool, All
     is_null_constant(alloc, b)
 }
 
-/// Whether they are pointers that may be compared for equality, and of which `?:` may choose (C90 6.3.9, 6.3.15).
+/// Whether both operands are pointers that may be compared for equality, and of which `?:` may choose (C90 6.3.9,
+/// 6.3.15).
 pub fn pointers_meet(alloc: Global, a: &TExpr, b: &TExpr) -> Result<bool, AllocError>
     ensures { IfOk result (λ holds. holds ≡ spec.pointers_meet (view_expr a.now) (view_expr b.now)) }
 {

@@ -36,7 +36,7 @@ pub fn target_of(ty: &CType) -> Target<'_>
     }
 }
 
-/// The same without qualifiers.
+/// What a pointer points to, without qualifiers; of another type the type itself.
 pub fn target_type(ty: &CType) -> &CType
     ensures { view_type result.now ≡ type_of (spec.pointee (view_type ty.now)) }
 {

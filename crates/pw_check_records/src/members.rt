@@ -24,7 +24,7 @@ impl<'a> MemberList<'a> {
     ghost use Rattle.pw_check_records.specs.Views.{view_member_list};
     ghost use Rattle.pw_types.specs.Views.{view_members};
 
-    /// No members.
+    /// A structure or union without members yet.
     pub fn new(alloc: Global) -> MemberList<'a>
         ensures { view_member_list result ≡ [] }
     {

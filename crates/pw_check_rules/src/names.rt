@@ -10,7 +10,9 @@ pub struct Entry {
 /// What a tag names (C90 6.5.2.3): a structure or union by its number, or an enumeration.
 #[derive(Clone, Copy)]
 pub enum Tag {
+    /// The structure or union of this number.
     Record(u32),
+    /// An enumeration.
     Enumeration,
 }
 
@@ -25,6 +27,8 @@ pub struct TagEntry {
 /// objects without a name.
 #[derive(Clone, Copy)]
 pub enum Slot {
+    /// The object whose name has this place among the names with linkage.
     Named(u32),
+    /// The object without a name that has this number.
     Hidden(u32),
 }

@@ -98,7 +98,7 @@ impl<'a> State<'a> {
         put(&mut self.body.locals, place, local);
     }
 
-    /// How many labels there are.
+    /// How many labels the function has so far.
     pub fn labels(&self) -> u32
         ensures { result ≡ (view_state self.now).body.labels }
     {
@@ -130,7 +130,7 @@ impl<'a> State<'a> {
         self.body.names.position(name)
     }
 
-    /// Whether a label was met.
+    /// Whether a label of this name stood before.
     pub fn is_met(&self, name: &[u8]) -> bool
         ensures { result ≡ statements.has_name (view_state self.now).body.met name.now }
     {

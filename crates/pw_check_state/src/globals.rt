@@ -24,7 +24,7 @@ use std::alloc::AllocError;
 
 #[tactic(auto, unfolding(crate::specs::StateViews::view_state), using(crate::proofs::PlaceLemmas::map_push, crate::proofs::PlaceLemmas::length_map, crate::proofs::PlaceLemmas::map_put_at))]
 impl<'a> State<'a> {
-    /// The structures and unions.
+    /// The structures and unions of the module so far, by their numbers.
     pub fn records(&self) -> &Types
         ensures { result.now ≡ spec.records_in (view_state self.now) }
     {
@@ -85,7 +85,7 @@ impl<'a> State<'a> {
         self.types.linked.position(name)
     }
 
-    /// The names with linkage.
+    /// The names with linkage so far, in the order of their first declarations.
     pub fn linked(&self) -> &[LinkedName<'a>]
         ensures { map view_linked result.now ≡ spec.linked_in (view_state self.now) }
     {
@@ -121,7 +121,7 @@ impl<'a> State<'a> {
         self.types.linked.set_tentative(place);
     }
 
-    /// A name with linkage is defined.
+    /// Notes that the name with linkage at a place is defined.
     pub fn set_defined(&mut self, place: u32)
         ensures { view_state self.new ≡ linkage.change_linked place (λ l. record l { defined = true }) (view_state self.old) }
     {

@@ -115,7 +115,7 @@ impl<'a> State<'a> {
         put(&mut self.scopes.entities, place, entity);
     }
 
-    /// Enters a scope.
+    /// Enters a scope inside the one that is read.
     pub fn one_deeper(&mut self) -> Result<(), AllocError>
         ensures { OnOk result (view_state self.new ≡ spec.one_deeper (view_state self.old)) }
     {

@@ -40,8 +40,11 @@ pub struct Specified {
 /// parameters.
 #[derive(Drop)]
 pub enum Derivation<'a> {
+    /// A pointer: the token of its `*`, and its qualifiers.
     ToPointer(usize, &'a [Qualifier]),
+    /// An array of this length, or of none that is known.
     ToArray(Option<u32>),
+    /// A function of parameters of these types.
     ToFunction(Vec<QType>),
 }
 

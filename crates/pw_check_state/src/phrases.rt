@@ -24,7 +24,7 @@ pub trait Phrases<'a> {
     /// What has to be known of a value before it checks.
     ghost can_check: { Self → Type 0 };
 
-    /// An expression.
+    /// An expression (C90 6.3): its node, and what is known of it as an operand.
     fn expr(
         &self,
         alloc: Global,
@@ -45,7 +45,7 @@ pub trait Phrases<'a> {
         requires { can_check self.now }
         ensures { Leads view_specified (declarations.specified_rule (view_specifiers specifiers.now) first) (view_state state.old) result (view_state state.new) };
 
-    /// A declarator.
+    /// A declarator (C90 6.5.4): the name that it declares, where there is one, and its steps outward.
     fn declarator(
         &self,
         alloc: Global,

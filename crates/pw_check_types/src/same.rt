@@ -7,7 +7,7 @@ ghost use Rattle.pw_types.specs.Views.{view_type, view_qtype, view_types};
 use crate::kinds::{is_kind, is_record_of};
 use pw_types::{CType, QType, is_void};
 
-/// Whether two truths are one.
+/// Whether both hold or neither does.
 pub(crate) fn same_truth(a: bool, b: bool) -> bool
     ensures { result ≡ spec.same_truth a b }
 {

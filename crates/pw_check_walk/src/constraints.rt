@@ -6,12 +6,19 @@ use std::alloc::{AllocError, AllocFailed};
 /// The limit that a count passes.
 #[derive(Clone, Copy, Debug, PartialEq, Eq)]
 pub enum Which {
+    /// The bytes of an identifier.
     NameLength,
+    /// The nodes of a function's typed tree.
     Nodes,
+    /// The bytes of an object, and of every other complete type.
     ObjectSize,
+    /// The bytes of the shape of a record or of a declared name.
     ShapeLength,
+    /// The room of a function, in bytes.
     Room,
+    /// The pointers, arrays, functions and records of a type, one inside the other.
     TypeDepth,
+    /// The parameters of a function.
     Parameters,
 }
 
@@ -30,6 +37,7 @@ pub enum CheckKind {
     Unsupported(Feature),
     /// A count above its limit.
     Limit(Which, u64),
+    /// Memory ran out.
     NoMemory,
 }
 

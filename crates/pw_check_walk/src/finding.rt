@@ -89,7 +89,7 @@ impl Finding {
         self.needs(CheckKind::Limit(limit, count), token, count <= most)
     }
 
-    /// The same with the constraints of a second list behind them.
+    /// The constraints of the first list, and behind them those of a second.
     pub fn and(self, behind: Finding) -> Finding
         ensures { result.least ≡ lesser_found self.least behind.least }
     {
@@ -99,7 +99,7 @@ impl Finding {
         }
     }
 
-    /// The fault, if there is one.
+    /// The fault of the first constraint that is broken, if there is one.
     pub fn end(self) -> Result<(), CheckFault>
         ensures { result ≡ told self.least (Ok tt) }
     {

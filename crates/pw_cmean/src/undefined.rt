@@ -9,6 +9,7 @@ ghost use Rattle.pw_cmean.specs.Undefined.{text_of};
 pub enum Undef {
     /// A sum, difference, product, negation or quotient of signed integers that its type cannot hold.
     SignedOverflow,
+    /// A quotient or remainder of a division by zero.
     ZeroDivisor,
     /// A count of a shift that is negative or no less than the width.
     ShiftCount,

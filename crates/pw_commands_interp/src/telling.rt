@@ -50,7 +50,8 @@ fn told_answer(alloc: Global, names: &[String], answer: Answer) -> Result<Answer
     }
 }
 
-/// The same of a reply; want of memory may come in its place.
+/// A reply whose operation without a meaning is told of the C source where one stands beside the module; want of memory
+/// may come in its place.
 #[tactic(auto, using(crate::proofs::ToldLemmas::reply_told, crate::proofs::ToldLemmas::reply_memory, crate::proofs::ToldLemmas::any_memory))]
 pub fn told_reply(alloc: Global, names: &[String], reply: Reply) -> Reply
     ensures told { (files : Files) → map string_bytes names.now ≡ finite.keys files → IsToldEnd files reply.answer result.answer }

@@ -46,7 +46,7 @@ pub fn no_memory(place: usize) -> Fault
     faulty(CppKind::NoMemory, place)
 }
 
-/// So many of the first bytes.
+/// The first bytes of some, as many as `count` says or as there are.
 pub fn bytes_before(bytes: &[u8], count: usize) -> &[u8]
     ensures { result.now ≡ take count bytes.now }
 {

@@ -15,6 +15,7 @@ use pw_types::UnaryOperator;
 pub enum Frame {
     /// A `(`.
     Group,
+    /// An operator that stands before its operand.
     Prefix(UnaryOperator),
     /// An operator with its left operand.
     Between(Infix, Number),

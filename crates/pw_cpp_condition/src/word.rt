@@ -13,14 +13,18 @@ use std::alloc::Global;
 /// An operator between two operands.
 #[derive(Clone, Copy)]
 pub enum Infix {
+    /// An operator that evaluates both operands.
     Binary(BinaryOperator),
+    /// `&&` or `||`.
     Logic(LogicOperator),
 }
 
 /// A token of an expression: an operand with its number, or a mark.
 #[derive(Clone, Copy)]
 pub enum Item {
+    /// An operand, with its number.
     Operand(Number),
+    /// A mark.
     Mark(Mark),
 }
 

@@ -30,6 +30,7 @@ pub struct Digits {
 /// What a condition comes to.
 #[derive(Clone, Copy)]
 pub enum Verdict {
+    /// Whether it holds: its value is not 0.
     Holds(bool),
     /// It is no constant expression, or something in it that is evaluated has no value.
     Faulty,

@@ -100,14 +100,23 @@ pub struct Standing<'a> {
 /// A word that has a meaning of its own, besides `pragma` and `include`.
 #[derive(Clone, Copy)]
 pub enum Word {
+    /// `define`
     Define,
+    /// `undef`
     Undef,
+    /// `if`
     If,
+    /// `ifdef`
     Ifdef,
+    /// `ifndef`
     Ifndef,
+    /// `elif`
     Elif,
+    /// `else`
     Else,
+    /// `endif`
     Endif,
+    /// `error`
     Error,
 }
 

@@ -2,7 +2,7 @@
 
 use pw_value::Name;
 
-/// Which limit is passed.
+/// The limit that a file passes.
 #[derive(Clone, Copy, Debug, PartialEq, Eq)]
 pub enum CppWhich {
     /// How deep includes nest.
@@ -17,7 +17,7 @@ pub enum CppWhich {
     Length,
 }
 
-/// What is wrong.
+/// What is wrong with a file that is preprocessed.
 #[derive(Debug, Drop)]
 pub enum CppKind {
     /// Nothing that C90 knows starts at a byte.

@@ -3,7 +3,7 @@
 ghost use Rattle.std.specs.Prelude.{◌≡◌, false};
 ghost use Rattle.pw_cpp_directives.specs.Groups as spec;
 
-/// An open `#if`.
+/// A section of groups from its `#if`, `#ifdef` or `#ifndef` on, whose `#endif` was not read yet (C90 6.8.1).
 #[derive(Clone, Copy)]
 pub struct Section {
     /// A group of it was taken before, or is.
@@ -47,7 +47,7 @@ pub fn with_else(section: Section) -> Section
     }
 }
 
-/// A word that opens a section.
+/// Whether the name of a directive opens a section.
 pub fn is_opening(name: &[u8]) -> bool
     ensures { result ≡ spec.is_opening name.now }
 {

@@ -9,7 +9,7 @@ ghost use Rattle.pw_token.specs.declared.token.Token.{Token};
 use pw_cpp_condition::one_meaning;
 use pw_cpp_expand::one_outcome;
 
-/// A directive has one effect.
+/// A directive has one effect: two effects that it may have are the same.
 pub fn one_effect()
     ensures { (source : List ℕ) (digits : Digits) (s : Standing) (hash : ℕ) (tokens : List Token) (word : Option Word) (effect other : Effect) → DoesWord source digits s hash tokens word effect → DoesWord source digits s hash tokens word other → effect ≡ other }
 {

@@ -62,7 +62,7 @@ pub fn read_on(
     Ok(None)
 }
 
-/// A token as it is read.
+/// A token as it is read of a text: no macro's name is hidden in it.
 pub fn fresh(token: Token) -> Lexeme
     ensures { result ≡ fresh token }
 {

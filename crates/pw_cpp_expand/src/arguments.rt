@@ -22,9 +22,13 @@ pub struct Arguments {
 /// What a token is among arguments.
 #[derive(Clone, Copy)]
 pub enum Part {
+    /// `(`
     Opens,
+    /// `)`
     Closes,
+    /// `,`
     Parts,
+    /// Any other token.
     GoesOn,
 }
 

@@ -88,7 +88,7 @@ fn is_alike(text: &[u8], one: &Macro, other: &Macro) -> bool
 }
 
 impl<'a> Macros<'a> {
-    /// No macros.
+    /// An empty table of macros.
     pub fn new(alloc: Global) -> Self
         ensures { result ≡ [] }
     {

@@ -27,7 +27,7 @@ pub fn is_word(token: Token) -> bool
     matches!(token.kind, TokenKind::Identifier | TokenKind::Keyword)
 }
 
-/// Whether a token is spelled so.
+/// Whether a token of a text has these bytes.
 pub fn is_spelled(text: &[u8], bytes: &[u8], token: Token) -> bool
     ensures { result ≡ spec.is_spelled text.now bytes.now token }
 {

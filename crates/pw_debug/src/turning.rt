@@ -26,10 +26,13 @@ pub struct At {
     pub registers: [u32; 32],
 }
 
-/// What comes of a function: the value is found, or nothing is, or the walk goes on at the call behind it.
+/// What a turn of a walk comes to at a function.
 pub enum Finding {
+    /// The value is found.
     Found(u32),
+    /// No value can be found.
     Nothing,
+    /// The walk goes on at this call.
     On(At),
 }
 

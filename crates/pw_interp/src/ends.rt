@@ -15,17 +15,24 @@ use std::alloc::{AllocError, Global};
 /// node that met it; or not within the bound.
 #[derive(Drop)]
 pub enum CEnd {
+    /// The program ended with this status.
     Ended(u8),
+    /// The stack is full.
     Stack,
+    /// An undefined operation, with the module and the token of the node that met it.
     Undefined(Undef, Name, usize),
+    /// The run did not end within the bound.
     Bound,
 }
 
 /// Why a run was given up: its input or its output had a fault, or there was no memory.
 #[derive(Clone, Copy, Debug)]
 pub enum InterpFault {
+    /// The input had a fault.
     ReadFault,
+    /// The output had a fault.
     WriteFault,
+    /// Memory ran out.
     NoMemory,
 }
 

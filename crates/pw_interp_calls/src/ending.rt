@@ -8,17 +8,24 @@ use std::alloc::{AllocError, AllocFailed};
 /// full; with a status; or not within the bound. `Wrong` is where a typed tree of no accepted program would lead.
 #[derive(Clone, Copy)]
 pub enum Ending<'a> {
+    /// An undefined operation, with the module and the token of the node that met it.
     Undefined(Undef, &'a Name, usize),
+    /// The stack is full.
     StackFull,
+    /// The program ended with this status.
     Exit(u8),
+    /// The run did not end within the bound.
     Bound,
+    /// A typed tree of no accepted program led here.
     Wrong,
 }
 
 /// Why a run does not go on: it ended, or there was no memory for it.
 #[derive(Clone, Copy)]
 pub enum Stop<'a> {
+    /// The run ended so.
     Ended(Ending<'a>),
+    /// Memory ran out.
     NoMemory,
 }
 

@@ -18,7 +18,7 @@ pub fn initialisers_in<'a>(s: &'a TStmt) -> &'a [Initialiser]
     }
 }
 
-/// The list of a block.
+/// The statements of a block; of any other statement none.
 #[tactic(auto, unfolding(pw_typed::specs::Views::view_stmt_form), using(pw_typed::proofs::Rows::block_view, pw_typed::proofs::Rows::if_view))]
 pub fn members_in<'a>(s: &'a TStmt) -> &'a [TStmt]
     ensures { view_stmts result.now ≡ spec.members_in (view_stmt s.now) }

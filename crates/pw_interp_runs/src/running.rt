@@ -43,7 +43,9 @@ fn run_program<I: Source, O: Sink>(
     answer_of(ran)
 }
 
-/// Runs the program of modules that were linked to an image.
+/// Runs the program of modules that were linked to an image: by the meaning of C, with the frames of the image's
+/// functions and the stack of the options, within their bound. The answer is how the run ended; at a fault of the input
+/// or the output, or for want of memory, the run is given up.
 pub fn run_linked<I: Source, O: Sink>(
     alloc: Global,
     modules: &[Module],

@@ -11,11 +11,17 @@ use pw_types::{CType, IntKind};
 /// The category of a type, that is its outermost derivation, with the kind of an integer type (ISO C90 6.1.2.5).
 #[derive(Clone, Copy)]
 pub enum Category {
+    /// `void`.
     Void,
+    /// An integer type of this kind.
     Int(IntKind),
+    /// A pointer.
     Pointer,
+    /// An array.
     Array,
+    /// A function.
     Function,
+    /// A structure or union.
     Record,
 }
 
@@ -23,7 +29,9 @@ pub enum Category {
 /// defined const its value (ISO C90 6.5.3, 6.5.7).
 #[derive(Clone, Copy)]
 pub enum Purpose {
+    /// An assignment, which writes only what may be written.
     Assigning,
+    /// An initialiser, which may write an object that is defined const.
     Initialising,
 }
 

@@ -8,7 +8,9 @@ use pw_cmean::Undef;
 /// Why a run does not go on: it met an undefined operation; or its tree is one of no accepted program.
 #[derive(Clone, Copy)]
 pub enum Fault {
+    /// The run met this undefined operation.
     Undefined(Undef),
+    /// The tree is one of no accepted program.
     Wrong,
 }
 

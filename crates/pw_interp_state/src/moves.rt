@@ -12,7 +12,9 @@ use pw_value::words::{is_negative, magnitude};
 /// A move by so many bytes, on or back.
 #[derive(Clone, Copy)]
 pub enum Move {
+    /// So many bytes on.
     On(u64),
+    /// So many bytes back.
     Back(u64),
 }
 

@@ -54,7 +54,7 @@ fn write_in(object: &mut Stored, offset: u32, new: &[Byte])
 }
 
 impl Objects {
-    /// No objects.
+    /// An empty list of objects.
     pub fn new(alloc: Global) -> Objects
         ensures { result ≡ [] }
     {

@@ -108,7 +108,7 @@ fn begin_step<'a>(
     go_on(alloc, call, state, going, bound)
 }
 
-/// A part of a statement.
+/// A step that begins a part of a statement: a block makes its locals' objects first.
 pub fn do_step<'a>(
     alloc: Global,
     call: &mut Call<'a>,
@@ -325,7 +325,7 @@ pub fn flowed_step<'a>(
     }
 }
 
-/// The arguments of a call that are left.
+/// A step that asks for the next argument of a call, or finds that all have their values.
 #[inline(never)]
 pub fn arguments_step<'a>(
     call: &mut Call<'a>,

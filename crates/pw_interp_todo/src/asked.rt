@@ -7,7 +7,9 @@ use pw_value::Value;
 /// An expression, of which the result is asked, or the place that it denotes.
 #[derive(Clone, Copy)]
 pub enum Asked<'a> {
+    /// The expression's result is asked for.
     Answer(&'a TExpr),
+    /// The place that the expression denotes is asked for.
     Place(&'a TExpr),
 }
 
@@ -30,7 +32,9 @@ pub enum Operand<'a> {
 /// value's type.
 #[derive(Clone, Copy)]
 pub enum Callee<'a> {
+    /// The function of this symbol.
     Named(&'a Symbol),
+    /// What the value points to: the call's token, the type of the value, and the value.
     Through(usize, &'a CType, Value),
 }
 
@@ -38,8 +42,12 @@ pub enum Callee<'a> {
 /// arguments of a call, which has the token, and the call.
 #[derive(Clone, Copy)]
 pub enum Next<'a> {
+    /// The expression's result, or none.
     Gave(Option<Value>),
+    /// What is asked in its place.
     Ask(Asked<'a>),
+    /// An operand, and what follows behind it.
     Behind(Asked<'a>, Operand<'a>),
+    /// The arguments of a call, the call's token, and what is called.
     Arguments(&'a [TExpr], usize, Callee<'a>),
 }

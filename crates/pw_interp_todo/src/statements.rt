@@ -87,7 +87,9 @@ pub struct Remainder<'a> {
 /// With which bound the run goes on: with the same, or with one that is one smaller.
 #[derive(Clone, Copy)]
 pub enum Turn {
+    /// With the same bound.
     Here,
+    /// With a bound that is one smaller: a loop begins a turn anew, or the run goes to a label.
     Back,
 }
 
@@ -95,8 +97,12 @@ pub enum Turn {
 /// what the statement does with its value.
 #[derive(Clone, Copy)]
 pub enum Going<'a> {
+    /// Nothing is left: this came of the statement.
     Left(Flow),
+    /// A part is done in its place, with the bound of this turn.
     On(Turn, Doing<'a>),
+    /// A part is done, and then what is left behind it.
     Then(Doing<'a>, Remainder<'a>),
+    /// An expression is asked for, and its value is used so.
     Ask(Asked<'a>, Use<'a>),
 }

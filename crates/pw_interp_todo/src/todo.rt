@@ -47,7 +47,9 @@ pub enum Todo<'a> {
 /// or -1 at the end of the input (ISO C90 7.9.7.6); or it writes this byte, which is the result (7.9.7.9).
 #[derive(Clone, Copy)]
 pub enum Transfer {
+    /// `getchar`: a byte is read.
     Read,
+    /// `putchar`: this byte is written.
     Write(u8),
 }
 
@@ -55,12 +57,18 @@ pub enum Transfer {
 /// call that are left; what was done has given this; or a byte is read or written, which gives a result.
 #[derive(Clone, Copy)]
 pub enum Control<'a> {
+    /// An expression is asked for.
     Ask(Asked<'a>),
+    /// A part of a statement is done, behind which the run goes on with the bound.
     Do { what: Doing<'a>, bound: u64 },
+    /// The arguments of a call that are left, and the call's token.
     Arguments(&'a [TExpr], usize),
+    /// An expression has given this result, or none.
     Gave(Option<Value>),
+    /// This came of a part of a statement.
     Flowed(Flow),
     /// All arguments of a call have their values.
     Listed,
+    /// A byte is read or written.
     Outside(Transfer),
 }

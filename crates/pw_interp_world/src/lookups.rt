@@ -6,7 +6,7 @@ ghost use Rattle.pw_interp_world.specs.Lookups as spec;
 use pw_check_names::NameList;
 use pw_value::Pointer;
 
-/// The number of the function of a name.
+/// The number of the function of a full name, where there is one.
 pub(crate) fn number_by_name(names: &NameList, numbers: &[u32], name: &[u8]) -> Option<u32>
     ensures { result ≡ spec.number_by_name names.now numbers.now name.now }
 {
@@ -33,7 +33,7 @@ pub(crate) fn denoted(
     }
 }
 
-/// The first place of a number.
+/// The first place that has a number, where there is one.
 pub(crate) fn place_of_number(numbers: &[u32], number: u32) -> Option<usize>
     ensures { result ≡ position (λ n. n == number) numbers.now }
 {

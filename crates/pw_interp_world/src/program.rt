@@ -26,15 +26,20 @@ pub struct Part<'a> {
 /// The functions that every program has (ISO C90 7.9.7.6, 7.9.7.9, 7.10.4.3).
 #[derive(Clone, Copy)]
 pub enum LibraryFunction {
+    /// `getchar`
     GetChar,
+    /// `putchar`
     PutChar,
+    /// `exit`
     ExitRun,
 }
 
 /// What a call of a function runs: its definition, in its module; or what the library has.
 #[derive(Clone, Copy)]
 pub enum Body<'a> {
+    /// The function's definition, in its module.
     Defined(Part<'a>, &'a TFunction),
+    /// A function of the library.
     Library(LibraryFunction),
 }
 

@@ -13,7 +13,7 @@ use pw_io::{Failed, Sink, Source};
 use std::io::{self, BufWriter, Read, Write};
 use std::marker::Model;
 
-/// One more fault, up to the greatest count.
+/// A count of faults with one more, up to the greatest count.
 pub fn raised(faults: u64) -> u64
     ensures { Rose faults result }
 {

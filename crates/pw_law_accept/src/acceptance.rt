@@ -48,7 +48,8 @@ pub fn linked_modules_declare_alike()
     accepted_names_are_declared();
 }
 
-/// And no function and no object has the name of another one or of a routine (6.7).
+/// Where the objects of checked modules link, no function and no object has the name of another one or of a routine
+/// (6.7).
 pub fn linked_names_are_apart()
     ensures { (p : Program) (frame_of : List ℕ → ℕ) (stack : ℕ) → AreChecked p → AreLinked (flow_program p frame_of stack).modules → AreNamesApart (flow_program p frame_of stack) }
 {
@@ -58,8 +59,8 @@ pub fn linked_names_are_apart()
     accepted_names_are_declared();
 }
 
-/// And where no module has a colon in its name, and the names rise, the function of a name has a shape that agrees with what each
-/// module says of it (6.1.2.6).
+/// Where the objects of checked modules link, no module has a colon in its name and the names rise, the function of a
+/// name has a shape that agrees with what each module says of it (6.1.2.6).
 pub fn linked_functions_agree()
     ensures { (p : Program) (frame_of : List ℕ → ℕ) (stack : ℕ) → AreChecked p → AreNamedPlainly p → IsRising (map (λ m. m.name) p.modules) → AreLinked (flow_program p frame_of stack).modules
         → (m : ProgramModule) → Contains p.modules m → (symbol : Symbol) (ty : QType) (f : Callable) → IsFunctionOf m.tree symbol ty → function_named p (full_name m.name symbol) ≡ Some f
@@ -96,7 +97,8 @@ pub fn linked_modules_are_within()
     accepted_is_within();
 }
 
-/// They are well typed and agree on functions, if no module has a colon in its name and the names rise.
+/// Checked modules whose objects link are well typed and agree on functions, if no module has a colon in its name and
+/// the names rise.
 pub fn linked_modules_are_well_typed()
     ensures { (p : Program) (frame_of : List ℕ → ℕ) (stack : ℕ) → AreChecked p → AreNamedPlainly p → IsRising (map (λ m. m.name) p.modules) → AreLinked (flow_program p frame_of stack).modules → IsWellTyped p }
 {
@@ -105,8 +107,8 @@ pub fn linked_modules_are_well_typed()
     linked_functions_agree();
 }
 
-/// And their operations name functions and globals as they want one: what one module takes for a function or an object, the program
-/// has as such.
+/// The operations of checked modules whose objects link name functions and globals as they want one: what one module
+/// takes for a function or an object, the program has as such.
 pub fn linked_operations_refer_rightly()
     ensures { (p : Program) (frame_of : List ℕ → ℕ) (stack : ℕ) → AreChecked p → AreNamedPlainly p → IsRising (map (λ m. m.name) p.modules) → AreLinked (flow_program p frame_of stack).modules
         → (f : FlowFn) (o : Op) → Contains (functions_of (flow_program p frame_of stack)) f → Contains (ops_of f) o → NamesRightly (flow_program p frame_of stack) o }
@@ -125,7 +127,8 @@ pub fn linked_operations_refer_rightly()
     lowered_functions_refer_rightly();
 }
 
-/// And the first bytes of their objects are right: bytes, and addresses, to which nothing is added where they are those of functions.
+/// The first bytes of the objects of checked modules whose objects link are right: bytes, and addresses, to which
+/// nothing is added where they are those of functions.
 pub fn linked_items_are_right()
     ensures { (p : Program) (frame_of : List ℕ → ℕ) (stack : ℕ) → AreChecked p → AreNamedPlainly p → IsRising (map (λ m. m.name) p.modules) → AreLinked (flow_program p frame_of stack).modules
         → HaveRightItems (flow_program p frame_of stack) }
@@ -141,7 +144,8 @@ pub fn linked_items_are_right()
     modules_are_lawful();
 }
 
-/// And their flow graphs make a program: each name that they use is defined, as what it is used for, and none twice, the modules are lawful and stand in the order of their names, and there is a `$start`.
+/// The flow graphs of checked modules whose objects link make a program: each name that they use is defined, as what it
+/// is used for, and none twice, the modules are lawful and stand in the order of their names, and there is a `$start`.
 pub fn linked_modules_make_a_program()
     ensures { (p : Program) (frame_of : List ℕ → ℕ) (stack : ℕ) → AreChecked p → AreNamedPlainly p → IsRising (map (λ m. m.name) p.modules) → stack ≤ stack_limit → AreLinked (flow_program p frame_of stack).modules
         → IsProgram (flow_program p frame_of stack) }
@@ -158,7 +162,8 @@ pub fn linked_modules_make_a_program()
     linked_items_are_right();
 }
 
-/// And each address in the first bytes of an object leads into the object that it names, or directly behind it.
+/// Where the objects of checked modules link, each address in the first bytes of an object leads into the object that
+/// it names, or directly behind it.
 pub fn linked_addresses_lead_inside()
     ensures { (p : Program) (frame_of : List ℕ → ℕ) (stack : ℕ) → AreChecked p → AreLinked (flow_program p frame_of stack).modules → LeadInside (flow_program p frame_of stack) }
 {
@@ -205,7 +210,7 @@ pub fn accepted_is_lowerable()
     checked_functions_are_formed();
 }
 
-/// So the law of lowering rests on that of programs, and on that of the source.
+/// The law of lowering rests on that of programs, and on that of the source.
 pub fn lowering_rests_on_programs()
     ensures { ProgramsKeepRuns → SourceIsNeverWrong → LoweringKeepsRuns }
 {

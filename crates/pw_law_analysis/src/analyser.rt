@@ -23,7 +23,8 @@ pub fn databases_are_lawful()
     laws::databases_are_lawful();
 }
 
-/// It is sound for the graph of its summaries by names, for no more registers than webs may have.
+/// The database of summaries that make a program is sound for the graph of its summaries by names, for no more
+/// registers than webs may have.
 pub fn databases_are_sound_by_name()
     ensures { DatabaseIsSound }
 {

@@ -38,7 +38,7 @@ pub fn modules_link_or_are_refused()
     ensures { (modules : List Interface) → Links modules ⊎ ((fault : LinkFault) × Refusal modules fault) }
 {}
 
-/// Each call graph has its webs.
+/// Each call graph has webs: there is a list of them that the definition of webs takes.
 pub fn graphs_have_webs()
     ensures { (g : CallGraph) → IsGraph g → (ws : List RawWeb) × AreWebs g ws }
 {}

@@ -112,7 +112,8 @@ pub fn builds_are_complete()
     a_seen_store_that_can_be_built_is_built();
 }
 
-/// The same of the command `build`, whose answer is then that it is done, or that memory ran out.
+/// Where a store's modules, as a build sees them, can be built, its kept objects are genuine and no count of faults
+/// rose, the command `build` answers that it is done, or that memory ran out.
 pub fn the_command_is_complete()
     ensures { (files : Files) (opts : Opts) (input : List ℕ) (reply : Answer) (store store' read read' written written' : ℕ) →
         StoreCanBeBuilt files opts → KeepsGenuine files → IsFound (BuildEffect files opts input) reply →

@@ -18,8 +18,9 @@ pub fn flow_globals_keep_their_bytes()
         Notes (AllByRecursion (HaveTheirBytesThen q)) (flow_run (record q { frame_of = frame_of; stack = stack }) input n) }
 {}
 
-/// So it is in C at each call and return that a stage of a program's run has noted, if a run of flow graphs meets this stage with the
-/// same globals.
+/// In C too, at each call and return that a stage of a program's run has noted, each global object has as many bytes as
+/// its size says, and each of them that is a number is one of eight bits, if a run of flow graphs meets this stage with
+/// the same globals.
 pub fn globals_have_their_bytes()
     ensures { (q : Program) (frame_of : List ℕ → ℕ) (stack : ℕ) (input : List ℕ) (stage : Stage Moment) → IsProgram q →
         Met (MomentKept q) stage (flow_run (record q { frame_of = frame_of; stack = stack }) input) → Notes (AllByRecursion (HaveTheirBytesInC q)) stage }

@@ -62,8 +62,8 @@ pub fn numbers_are_told()
         GlobalInMachine address objects g bytes place → number_of kind place ≡ v }
 {}
 
-/// So it is of the value to which the walk of a global comes, where functions are active one behind another, as a walk meets
-/// them.
+/// Where the bytes of a global of a kind are a number in C, this is the value to which the walk of the global comes,
+/// where functions are active one behind another, as a walk meets them.
 pub fn values_are_those_of_the_source()
     ensures { (core : Core) (functions : List Function) (frames : List FrameInfo) (object : GlobalObject) (kind : Kind) (named : List ℕ → ℕ) (active : List Active) (g : FlowGlobal) (held value : ℕ) (address : Pointer → ℕ) (objects : List Object) (bytes : List Byte) (v : ℕ) →
         ((b : ℕ) → byte_at core.memory b < 256) → g.name ≡ object.name → named g.name ≡ object.address → g.size ≡ kind_size kind → g.kind ≡ Some kind →

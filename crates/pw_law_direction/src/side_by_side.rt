@@ -15,7 +15,7 @@ pub fn operations_follow()
     taken_functions_are_fine();
 }
 
-/// So are ends of blocks that do not return.
+/// Ends of blocks that do not return are the same in both runs.
 pub fn blocks_follow()
     ensures { BlocksFollow }
 {}
@@ -82,8 +82,8 @@ pub fn calls_follow()
     start_is_not_called();
 }
 
-/// So does a return: what the function's webs have written is stored back, and each global has its value where it stands
-/// then.
+/// A return does the same in both runs: what the function's webs have written is stored back, and each global has its
+/// value where it stands then.
 pub fn returns_follow()
     ensures { ReturnsFollow }
 {

@@ -66,8 +66,9 @@ pub fn layers_hold()
     ensures { LayersHold }
 {}
 
-/// The same follows of each built program from the laws of selection and linking, and from those of direction and of places
-/// for the program's own directives and places. The flow graphs that it was built of are any that implement the program.
+/// What `layers_hold` says follows of each built program from the laws of selection and linking, and from those of
+/// direction and of places for the program's own directives and places. The flow graphs that it was built of are any
+/// that implement the program.
 pub fn layers_compose()
     ensures { LayersCompose }
 {

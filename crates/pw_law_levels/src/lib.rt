@@ -39,7 +39,8 @@ pub fn selected_functions_are_pointed()
     parts_are_filled_alone();
 }
 
-/// So it is framed, where its frame is that of its head, its saved registers and its slots, and no function begins inside.
+/// What is selected of a function is framed, where its frame is that of its head, its saved registers and its slots,
+/// and no function begins inside.
 pub fn selected_functions_are_framed()
     ensures { (x : Setting) (g : LineFn) (f : Located) (n : ℕ) → g.located ≡ f → g.items ≡ arranged (selected f) → IsSparing f →
         f.frame ≡ last_reach (slots_begin (head_size f.body) (length f.saved) n) f.body.slots →

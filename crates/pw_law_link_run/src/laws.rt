@@ -67,8 +67,9 @@ pub fn words_are_met()
     ensures block { (x : Setting) (k b : ℕ) (m : Machine) (rest : List Item) → Simulates x (left_behind (Mark b ∷ rest) m) k → Simulates x (left_behind rest m) k }
 {}
 
-/// So do a jump to a block, a conditional branch, short or long, and a loop inside a block, whatever stands in the slot;
-/// of a conditional branch the stack pointer behind the slot is above those of all active calls.
+/// A jump to a block, a conditional branch, short or long, and a loop inside a block lead from a state that the machine
+/// shows to one that it shows some steps later, whatever stands in the slot; of a conditional branch the stack pointer
+/// behind the slot is above those of all active calls.
 #[tactic(auto, using(crate::proofs::Items::goto_simulates, crate::proofs::Items::if_simulates, crate::proofs::Items::back_simulates))]
 pub fn branches_are_met()
     ensures jump { (x : Setting) → IsLinked x → (k b : ℕ) (slot : Option Word) (m t : Machine) (rest : List Item) →
@@ -142,17 +143,18 @@ pub fn steady_runs_are_met()
         Refines Same (line_run x.program x.addresses scratch input) (traced_run (map_in x) core input) }
 {}
 
-/// So it is met where the items of each function keep the stack pointer: at its end at every block and turn but a
-/// return, and as at the call before a return, with no return address where it is lower; and where the machine starts at
-/// the entry with the core of the lines. The lines take the words that the routines leave: a function of the routine and
-/// of the registers at its first word.
+/// The run of lines is met by the machine's run, with the same log, where the items of each function keep the stack
+/// pointer: at its end at every block and turn but a return, and as at the call before a return, with no return address
+/// where it is lower; and where the machine starts at the entry with the core of the lines. The lines take the words
+/// that the routines leave: a function of the routine and of the registers at its first word.
 pub fn framed_runs_are_met()
     ensures { (x : Setting) → IsLinked x → HasLibrary x → HasRoutines x → AreFramed x → (scratch : ℕ → (ℕ → ℕ) → ℕ → ℕ) × ((core : Core) (input : List ℕ) (f : LineFn) →
         x.start ≡ start_state core input → IsStart x f input → Refines Same (line_run x.program x.addresses scratch input) (traced_run (map_in x) core input)) }
 {}
 
-/// So each step of the run of lines comes to what the machine comes to at some step, with the same log; and there each active
-/// function's stack pointer is at the end of its caller's frame.
+/// Where the items of each function keep the stack pointer, each step of the run of lines comes to what the machine
+/// comes to at some step, with the same log; and there each active function's stack pointer is at the end of its
+/// caller's frame.
 pub fn framed_steps_are_met()
     ensures { (x : Setting) → IsLinked x → HasLibrary x → HasRoutines x → (fr : AreFramed x) → (scratch : ℕ → (ℕ → ℕ) → ℕ → ℕ) × ((input : List ℕ) (f : LineFn) → IsStart x f input →
         (n : ℕ) → IsMet x fr (steps x.program x.addresses scratch n (start x.program x.addresses input))) }

@@ -170,7 +170,8 @@ pub fn served_functions_are_sparing()
     ensures sparing { (f : WebFn) (l : Located) → IsWebFn f → Serves f l → 1 ≤ l.frame → l.frame < 2 ^ 31 → IsSparing l }
 {}
 
-/// Its functions are framed, where their registers and frames are such, and the data begin before every global object.
+/// The functions of a linked program are framed, where their registers and frames are such, and the data begin before
+/// every global object.
 pub fn linked_programs_are_framed()
     ensures { (p : Program) (functions : List Located) (objects : List Object) (input : List ℕ) → AreDistinct (map (λ l. l.body.name) functions) →
         AllByRecursion IsSparing functions → AllByRecursion HasFrame functions → AllByRecursion (ItsAddressIsItsOwn p objects) functions →
@@ -193,9 +194,9 @@ pub fn given_programs_are_in_memory()
     runs_keep_lawful_states();
 }
 
-/// So what the law of linking is given is in its place, where the image is lawful, what its relocations are of is known, and its
-/// data are those of the lines. For its words stand in memory at their addresses, and the library and the routines are the last
-/// pieces, and stand behind all functions.
+/// What the law of linking is given is in its place, where the image is lawful, what its relocations are of is known,
+/// and its data are those of the lines. For its words stand in memory at their addresses, and the library and the
+/// routines are the last pieces, and stand behind all functions.
 pub fn given_programs_are_in_place()
     ensures { (p : Program) (d : List (List ℕ × Directives)) (functions : List Located) (objects : List Object) (input : List ℕ) → IsGiven p d functions objects → IsInMemory p functions objects input → IsInPlace p functions objects input }
 {

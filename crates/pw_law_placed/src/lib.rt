@@ -27,7 +27,7 @@ pub fn commands_follow()
     ensures { CommandsFollow }
 {}
 
-/// So does the end of a block that does not return.
+/// The end of a block that does not return does the same in both runs.
 pub fn blocks_follow()
     ensures { BlocksFollow }
 {}
@@ -49,7 +49,7 @@ pub fn calls_follow()
     callers_leave_free_registers_alone();
 }
 
-/// So does a return.
+/// A return does the same in both runs.
 pub fn returns_follow()
     ensures { ReturnsFollow }
 {}

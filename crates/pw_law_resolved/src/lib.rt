@@ -23,7 +23,8 @@ pub fn accepted_programs_are_resolved()
     operations_name_all();
 }
 
-/// So its run comes to no end that the meaning does not have, within any bound, with any frames, on any stack and any input of bytes.
+/// The run of an accepted program of checked texts comes to no end that the meaning does not have, within any bound,
+/// with any frames, on any stack and any input of bytes.
 pub fn source_is_never_wrong()
     ensures { SourceIsNeverWrong }
 {

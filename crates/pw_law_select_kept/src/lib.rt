@@ -15,7 +15,8 @@ pub fn operations_leave_as_found()
     ensures { OperationsLeaveAsFound }
 {}
 
-/// So does one that was just entered and has saved.
+/// A function that was just entered, and has saved, leaves the registers that a callee keeps as it found them, with
+/// what it saved given back.
 pub fn functions_enter_as_found()
     ensures { FunctionsEnterAsFound }
 {}

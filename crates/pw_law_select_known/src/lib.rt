@@ -26,7 +26,8 @@ pub fn operations_keep_shape()
     ensures { OperationsKeepShape }
 {}
 
-/// So does a web where it is loaded, or stored back.
+/// A web where it is loaded, or stored back, leaves which objects live and how long they are, and notes loads and
+/// stores alone.
 pub fn webs_keep_shape()
     ensures { WebsKeepShape }
 {}

@@ -16,7 +16,7 @@ pub fn temporaries_serve()
     registers_keep_apart();
 }
 
-/// So they serve all functions of every program under a lawful database.
+/// The places that allocation gives serve all functions of every program under a lawful database.
 pub fn temporaries_serve_programs()
     ensures { TemporariesServePrograms }
 {

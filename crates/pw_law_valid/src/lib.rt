@@ -33,7 +33,7 @@ pub fn trees_have_few_tokens()
     ensures { (text : List ℕ) (tokens : List Token) (tree : Module) → IsLexed text tokens → IsTreeOf (spelled_all text tokens) tree → length (symbols tree) ≤ token_limit }
 {}
 
-/// So an object without a name of an accepted text has a number of 32 bits.
+/// An object without a name of an accepted text has a number of 32 bits.
 pub fn accepted_objects_are_numbered()
     ensures { (text : List ℕ) (tokens : List Token) (tree : Module) (m : ModuleValue) → IsLexed text tokens → IsTreeOf (spelled_all text tokens) tree → Checks tree (Ok m) → AreNumbered m }
 {

@@ -2,7 +2,7 @@
 #![tactic(auto)]
 
 ghost use Rattle.std.specs.Prelude.{◌≡◌, Ok};
-ghost use Rattle.pw_build_objects.specs.Options.{AreOpts};
+ghost use Rattle.pw_build_opts.specs.Options.{AreOpts};
 ghost use Rattle.pw_io.specs.Files.{Files};
 ghost use Rattle.pw_store_modules.specs.Modules.{Texts, module_map};
 ghost use Rattle.pw_build_opts.specs.declared.opts.Opts.{Opts};
@@ -74,7 +74,7 @@ pub fn full_builds_are_whole()
     optimisation_shows_no_more();
 }
 
-/// So each frame of the map of its image is at most the room of its function.
+/// Each frame of the map of a full build's image is at most the room of its function.
 pub fn frames_of_full_builds_fit()
     ensures { (texts : Texts) (opts : Opts) (parts : Parts) (p : Program) → FullBuild texts opts (Ok parts) → IsProgramOf texts p →
         HavePlainNames texts → AreOpts opts → FramesFit p (image_of parts.objects opts.stack) }

@@ -27,8 +27,8 @@ pub fn accepted_numbers_are_words()
     accepted_addresses_lead_inside();
 }
 
-/// So a module that checking accepts is well typed (`WellTyped`), if its syntax tree is one of C90's grammar and no string literal is
-/// longer than an object can be, as of each text.
+/// A module that checking accepts is well typed (`WellTyped`), if its syntax tree is one of C90's grammar and no string
+/// literal is longer than an object can be, as of each text.
 pub fn accepted_texts_are_well_typed()
     ensures { (tree : Module) (m : ModuleValue) → WellFormedModule tree → HasShortStrings tree → Checks tree (Ok m) → WellTyped m }
 {

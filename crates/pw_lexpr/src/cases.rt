@@ -56,7 +56,7 @@ pub fn go_on(alloc: Global, default: Option<u32>, out: u32, code: &mut Code) -> 
     code.leave(alloc, End::Jump(other))
 }
 
-/// Begins the block of each label.
+/// Begins the block of each of these labels, to which the block before it goes on.
 pub fn begin_labels(alloc: Global, labels: &[u32], code: &mut Code) -> Result<(), NoMemory>
     ensures { OnOk result (code.new ≡ spec.begun labels.now code.old) }
 {

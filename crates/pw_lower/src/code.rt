@@ -178,7 +178,7 @@ impl Code {
         Ok(())
     }
 
-    /// The same at the depth of the block that is filled.
+    /// Ends the block that is filled, and begins the next at the same depth.
     pub fn cut_here(&mut self, alloc: Global, end: End, number: u32) -> Result<(), NoMemory>
         ensures { OnOk result (self.new ≡ spec.cut_here end number self.old) }
     {

@@ -104,7 +104,8 @@ pub fn side_of(types: &Types, ty: &CType) -> Result<Side, NoMemory>
     })
 }
 
-/// The same of the type in which `++` and `--` work on an operand of a type.
+/// What an operator's work depends on in the type in which `++` and `--` work on an operand of a type. There is no
+/// memory only for a pointer to what 32 bits cannot count.
 #[tactic(auto, unfolding(pw_types::specs::Views::view_type), using(pw_types::proofs::ViewLemmas::signature_view))]
 pub fn step_side(types: &Types, ty: &CType) -> Result<Side, NoMemory>
     ensures { MatchResult result (λ side. side ≡ spec.side_of types.now (promoted_type (view_type ty.now))) (λ _. spec.HasVastTarget types.now (promoted_type (view_type ty.now))) }

@@ -6,7 +6,9 @@ use pw_value::Name;
 /// Where a parameter or local stands: in a temporary, or in a slot.
 #[derive(Clone, Copy)]
 pub enum LocalPlace {
+    /// In the temporary of this number.
     Temp(u32),
+    /// In the slot of this number.
     Slot(u32),
 }
 
@@ -14,8 +16,11 @@ pub enum LocalPlace {
 /// temporary leads to.
 #[derive(Drop)]
 pub enum Target {
+    /// The temporary of this number keeps it.
     Kept(u32),
+    /// It is the global object of this name.
     Named(Name),
+    /// The temporary of this number holds its address.
     Led(u32),
 }
 

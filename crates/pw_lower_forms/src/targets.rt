@@ -52,7 +52,7 @@ pub fn address_of_local(place: LocalPlace, code: &mut Code) -> Result<u32, NoMem
     }
 }
 
-/// Where a local is that is a scalar.
+/// Where a scalar local is: in its temporary, or behind the address of its slot, which a new temporary takes.
 pub fn target_of_local(place: LocalPlace, code: &mut Code) -> Result<Target, NoMemory>
     ensures { IfOk result (λ target. spec.still target code.new ≡ spec.target_of_local place code.old) }
 {

@@ -38,7 +38,7 @@ fn same_blocks(
     Ok(same)
 }
 
-/// The same function again.
+/// A copy of a function.
 pub(crate) fn same_function(
     alloc: Global,
     constants: &Constants,

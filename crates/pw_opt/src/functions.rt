@@ -49,7 +49,7 @@ fn optimise_function(
     Ok(live)
 }
 
-/// The functions optimised, one by one.
+/// The optimised form of each function, in order.
 pub(crate) fn optimise_functions(
     alloc: Global,
     quiet: &Quiet<'_>,

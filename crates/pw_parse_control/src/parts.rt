@@ -33,7 +33,7 @@ pub trait StmtParts<'a> {
         requires { can_read self.now }
         ensures { Reads view_decl_list (declarations (limit self.now) true tokens.old) result tokens.new };
 
-    /// A smaller statement.
+    /// A statement that stands in another one (C90 6.6).
     fn stmt(&self, alloc: Global, tokens: &mut Tokens<'a>) -> Result<Stmt, Stop>
         requires { can_read self.now }
         ensures { Reads view_stmt (parser self.now tokens.old) result tokens.new };

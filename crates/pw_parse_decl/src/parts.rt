@@ -58,7 +58,7 @@ pub trait InitParts<'a> {
         requires { can_read self.now }
         ensures { Reads view_expr ((parts (limit self.now)).expr level tokens.old) result tokens.new };
 
-    /// A smaller initializer.
+    /// An initializer that stands in another one: an expression, or a list in braces (C90 6.5.7).
     fn init(&self, alloc: Global, tokens: &mut Tokens<'a>) -> Result<Init, Stop>
         requires { can_read self.now }
         ensures { Reads view_init (parser self.now tokens.old) result tokens.new };

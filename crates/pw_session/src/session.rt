@@ -21,7 +21,7 @@ use std::alloc::Global;
 /// The greatest count of lines of a script.
 pub const LINES_LIMIT: u64 = 10_000;
 
-/// The limit is the one that the definitions speak of.
+/// A session's script has as many lines at most as the definitions say.
 pub fn limit_of_a_session()
     ensures { LINES_LIMIT ≡ lines_limit }
 {}

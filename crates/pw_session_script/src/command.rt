@@ -14,9 +14,13 @@ use pw_top_words::number_in;
 /// The command of a line, with the name of a text's file and how many bytes stand behind the line.
 #[derive(Clone, Copy)]
 pub enum Command<'a> {
+    /// `put FILE COUNT`: the file's name, and the count of bytes of its text.
     Put(&'a str, u64),
+    /// `remove FILE`: the file's name.
     Remove(&'a str),
+    /// `build`
     Build,
+    /// `run COUNT`: the count of bytes of the input.
     Run(u64),
 }
 

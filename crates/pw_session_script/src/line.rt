@@ -3,7 +3,7 @@
 use pw_io::Failed;
 use std::alloc::AllocError;
 
-/// A line of a script.
+/// A line of a session's script, with the text that stands behind it.
 #[derive(Drop)]
 pub enum Line {
     /// `put FILE COUNT`: the name of a module's file or of a header, and the text that stands behind the line.

@@ -7,7 +7,7 @@ ghost use Rattle.pw_store_modules.specs.Modules.{is_module_name};
 use pw_value::Name;
 use std::alloc::{AllocError, Global};
 
-/// The file of the database of directives.
+/// The name of the file of the database of directives.
 pub const DATABASE_NAME: &str = "prog.db";
 
 /// The file of the image, which the machine runs.
@@ -35,7 +35,7 @@ pub fn names_of_files()
     ensures object { OBJECT_ENDING.now ≡ object_ending }
 {}
 
-/// The file of a module of one kind.
+/// The name of a module's file of one kind: the module's name, and the ending of the kind behind it.
 pub fn file_of(alloc: Global, stem: &str, ending: &str) -> Result<String, AllocError>
     ensures { IfOk result (λ name. string_bytes name ≡ stem.now ++ ending.now) }
 {

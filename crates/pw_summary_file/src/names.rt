@@ -25,7 +25,7 @@ pub(crate) fn used_names(alloc: Global, summary: &Summary) -> Result<Vec<&Name>,
     Ok(used)
 }
 
-/// The names of functions alone.
+/// The names of functions, in order, without their shapes.
 pub(crate) fn function_names(
     alloc: Global,
     functions: &[(Name, Shape)],
@@ -37,7 +37,7 @@ pub(crate) fn function_names(
     Ok(names)
 }
 
-/// The names of globals alone.
+/// The names of globals, in order, without what a summary says of them.
 pub(crate) fn global_names(
     alloc: Global,
     globals: &[(Name, Shape, Option<Kind>, bool)],

@@ -13,6 +13,7 @@ use std::process::Abort;
 pub(crate) enum OutsideCase {
     /// What a sure source of `ab` answers, and one with faults at its calls 2 and 5.
     SureSource,
+    /// What a source of `ab` answers that has faults at its calls 2 and 5.
     FailingSource,
     /// Of each of `PIECES` whether a sure sink with room for three bytes takes it, whether one that drops all does, and
     /// whether one with room for four does whose calls 2 and 3 have faults; then what the first and the last keep.

@@ -18,6 +18,7 @@ use std::process::Abort;
 pub(crate) enum SolverCase {
     /// For each of so many nodes, those from which it is reached over these edges: solved, and by the definition.
     Solved(usize, &'static [(usize, usize)]),
+    /// For each of so many nodes, those from which it is reached over these edges, by the definition.
     Walked(usize, &'static [(usize, usize)]),
     /// The variables that are live as each node of `READS`, `WRITES` and `BACKWARD` begins.
     Live,

@@ -11,11 +11,17 @@ use std::alloc::Global;
 /// names.
 #[derive(Clone, Copy)]
 pub enum Format {
+    /// A flow file.
     Flow,
+    /// A summary file.
     Summary,
+    /// A database file.
     Database,
+    /// The payload of a database alone.
     Payload,
+    /// An object file.
     Object,
+    /// A function of an object file, behind its table of names.
     Function,
 }
 

@@ -31,7 +31,7 @@ fn read_behind_names(alloc: Global, bytes: &[u8]) -> Result<(ObjectFn, &[u8]), F
     read_function(alloc, &names, rest)
 }
 
-/// The same, with the fault told by its offset.
+/// Reads a function with its names, and tells a fault by its offset.
 pub fn read_named(alloc: Global, bytes: &[u8]) -> Result<(ObjectFn, &[u8]), FileError> {
     match read_behind_names(alloc, bytes) {
         Ok(read) => Ok(read),

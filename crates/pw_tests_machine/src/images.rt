@@ -19,6 +19,7 @@ pub(crate) enum ImageCase {
     Cut(usize),
     /// The image, and the map, in bytes.
     Image(&'static [u8]),
+    /// The map of the image whose file these bytes are, in bytes.
     Map(&'static [u8]),
 }
 

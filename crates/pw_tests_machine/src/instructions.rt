@@ -18,7 +18,9 @@ pub(crate) enum InstCase {
     Target(u32, i32),
     /// A word with another immediate of LDIL, another displacement of 14 bits, another displacement of BL.
     LongImmediate(u32, u32),
+    /// A word with another displacement of 14 bits.
     Displacement(u32, i32),
+    /// A word with another displacement of BL.
     Branch(u32, u32),
     /// The left and the right part of an address.
     Parts(u32),

@@ -15,7 +15,7 @@ pub struct First {
 }
 
 impl First {
-    /// There was none.
+    /// What stands before the first row: no image, and no report.
     pub fn new(alloc: Global) -> First {
         First {
             image: Vec::new(alloc),

@@ -8,17 +8,24 @@ use std::rt::Files;
 /// The calls of the system that a store makes of a folder.
 #[derive(Clone, Copy, PartialEq, Eq)]
 pub enum Call {
+    /// The folder is opened.
     OpenFolder,
+    /// An entry of the folder is read.
     ReadFolder,
+    /// A name in the folder is asked what it stands for.
     AskName,
+    /// A file is opened.
     OpenFile,
+    /// A file is removed.
     RemoveFile,
 }
 
 /// A fault of a call: one of a kind, without a number, or that of the system which has this number.
 #[derive(Clone, Copy)]
 pub enum Fault {
+    /// A fault of this kind, without a number.
     Of(ErrorKind),
+    /// The system's fault of this number.
     Numbered(i32),
 }
 

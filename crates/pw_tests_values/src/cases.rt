@@ -8,7 +8,7 @@ use std::process::Abort;
 
 /// What is asked of a crate.
 pub(crate) trait Case {
-    /// Adds the answer.
+    /// Adds to the text what the case comes to.
     fn answer<R: Abort>(&self, rt: &R, text: &mut Text);
 }
 

@@ -17,9 +17,13 @@ pub(crate) enum FieldCase {
     Written,
     /// The number of one byte at the beginning of these, and what is behind it; so the next four with their fields.
     U8(&'static [u8]),
+    /// The number of four bytes at the beginning of these, and what is behind it.
     U32(&'static [u8]),
+    /// The number of eight bytes at the beginning of these, and what is behind it.
     U64(&'static [u8]),
+    /// The truth value at the beginning of these, and what is behind it.
     Flag(&'static [u8]),
+    /// The text at the beginning of these, and what is behind it.
     Text(&'static [u8]),
     /// The table of the name `b` and twice the name `a`.
     Table,

@@ -34,17 +34,28 @@ pub(crate) enum ValueCase {
     Unsigned(u32, u32),
 }
 
+/// An operation on two words.
 #[derive(Clone, Copy)]
 pub(crate) enum Operation {
+    /// The sum of two ints.
     Sum,
+    /// The difference of two ints.
     Difference,
+    /// The product of two ints.
     Product,
+    /// The quotient of two ints.
     Quotient,
+    /// The remainder of two ints.
     Remainder,
+    /// The quotient of two unsigned ints.
     UnsignedQuotient,
+    /// The remainder of two unsigned ints.
     UnsignedRemainder,
+    /// A word shifted left.
     Left,
+    /// An int shifted right.
     Right,
+    /// An unsigned int shifted right.
     UnsignedRight,
 }
 

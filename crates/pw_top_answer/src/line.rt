@@ -432,7 +432,7 @@ fn bad_script_line(alloc: Global, at: u64) -> Result<Vec<u8>, AllocError>
     Ok(text)
 }
 
-/// A line that is told.
+/// A line that tells an answer; for an answer of which nothing is told it has no bytes.
 #[derive(Drop)]
 pub enum Line {
     /// A line that is always the same.

@@ -11,7 +11,9 @@ use std::alloc::AllocError;
 /// Why there is no command: the words are no command line, or there is no memory.
 #[derive(Clone, Copy)]
 pub enum WordsFault {
+    /// The words are no command line.
     Usage,
+    /// Memory ran out.
     NoMemory,
 }
 

@@ -4,6 +4,7 @@ use crate::expr::{Declarator, Expr, Specifier};
 
 /// An initializer (C90 6.5.7).
 pub enum Init {
+    /// An assignment expression.
     Value(Expr),
     /// A list in braces, at its `{`; whether a comma stands before its `}`.
     List {
@@ -13,7 +14,7 @@ pub enum Init {
     },
 }
 
-/// `=` and an initializer, at the `=`.
+/// An initializer behind its `=`, at whose token it stands (C90 6.5.7).
 pub struct Initializer {
     pub token: usize,
     pub init: Init,

@@ -18,6 +18,7 @@ pub struct Word {
 /// An expression (C90 6.3).
 #[cycle(expr)]
 pub enum Expr {
+    /// An identifier (6.3.1).
     Identifier(Word),
     /// An integer constant (6.1.3.2).
     Number(Word),
@@ -121,52 +122,73 @@ pub struct TypeName {
 /// A storage class (C90 6.5.1).
 #[derive(Clone, Copy)]
 pub enum StorageClass {
+    /// `typedef`
     Typedef,
+    /// `extern`
     Extern,
+    /// `static`
     Static,
+    /// `auto`
     Auto,
+    /// `register`
     Register,
 }
 
 /// A type qualifier (C90 6.5.3).
 #[derive(Clone, Copy, PartialEq, Eq)]
 pub enum Qualifier {
+    /// `const`
     Const,
+    /// `volatile`
     Volatile,
 }
 
 /// A type specifier that is a keyword (C90 6.5.2).
 #[derive(Clone, Copy)]
 pub enum BasicType {
+    /// `void`
     Void,
+    /// `char`
     Char,
+    /// `short`
     Short,
+    /// `int`
     Int,
+    /// `long`
     Long,
+    /// `float`
     Float,
+    /// `double`
     Double,
+    /// `signed`
     Signed,
+    /// `unsigned`
     Unsigned,
 }
 
 /// A structure or a union (C90 6.5.2.1).
 #[derive(Clone, Copy)]
 pub enum RecordKind {
+    /// `struct`
     Struct,
+    /// `union`
     Union,
 }
 
 /// One of the specifiers at the beginning of a declaration, in the source's order (C90 6.5).
 #[cycle(expr)]
 pub enum Specifier {
+    /// A storage class (6.5.1), at its keyword.
     Storage {
         token: usize,
         class: StorageClass,
     },
+    /// A type qualifier (6.5.3), at its keyword.
     Qualifier {
         token: usize,
         qualifier: Qualifier,
     },
+    /// A type specifier that is this keyword alone (6.5.2).
     Basic {
         token: usize,
         basic: BasicType,
@@ -206,9 +228,10 @@ pub struct Member {
     pub declarators: Vec<MemberDeclarator>,
 }
 
-/// One member of a declaration of members.
+/// A member of a structure or union, as a declaration of members has it (C90 6.5.2.1).
 #[cycle(expr)]
 pub enum MemberDeclarator {
+    /// A member that is no bit-field.
     Plain(Declarator),
     /// A bit-field, at its `:`.
     BitField {
@@ -226,7 +249,9 @@ pub enum MemberDeclarator {
 /// An enumeration constant (C90 6.5.2.2).
 #[cycle(expr)]
 pub enum Enumerator {
+    /// A name alone: its value is one more than that of the one before it, or 0.
     Plain(Word),
+    /// A name with `=` and its value.
     Valued { name: Word, value: Expr },
 }
 
@@ -248,7 +273,9 @@ pub struct Pointer {
 /// What stands between a declarator's pointers and its suffixes.
 #[cycle(expr)]
 pub enum Core {
+    /// Nothing, in an abstract declarator (6.5.5).
     Absent,
+    /// The declared identifier.
     Name(Word),
     /// A declarator in parentheses, at its `(`.
     Paren {
@@ -294,7 +321,7 @@ pub struct Parameter {
 }
 
 impl StorageClass {
-    /// How it is spelled.
+    /// The keyword that spells it.
     pub fn keyword(self) -> Keyword
         ensures { result ≡ spec.storage_word self }
     {
@@ -309,7 +336,7 @@ impl StorageClass {
 }
 
 impl Qualifier {
-    /// How it is spelled.
+    /// The keyword that spells it.
     pub fn keyword(self) -> Keyword
         ensures { result ≡ spec.qualifier_word self }
     {
@@ -321,7 +348,7 @@ impl Qualifier {
 }
 
 impl BasicType {
-    /// How it is spelled.
+    /// The keyword that spells it.
     pub fn keyword(self) -> Keyword
         ensures { result ≡ spec.basic_word self }
     {
@@ -340,7 +367,7 @@ impl BasicType {
 }
 
 impl RecordKind {
-    /// How it is spelled.
+    /// The keyword that spells it.
     pub fn keyword(self) -> Keyword
         ensures { result ≡ spec.record_word self }
     {

@@ -9,11 +9,17 @@ use pw_token::{Keyword, Mark, Token, TokenKind, spelling};
 /// A token as the grammar knows it, with its bytes where they are its own.
 #[derive(Clone, Copy)]
 pub enum Lexeme<'a> {
+    /// A keyword (C90 6.1.1).
     Keyword(Keyword),
+    /// An operator but `sizeof`, or a punctuator (6.1.5, 6.1.6).
     Mark(Mark),
+    /// An identifier (6.1.2).
     Identifier(&'a [u8]),
+    /// An integer constant (6.1.3.2).
     Number(&'a [u8]),
+    /// A floating constant (6.1.3.1).
     Floating(&'a [u8]),
+    /// A character constant (6.1.3.4).
     Character(&'a [u8]),
     /// A wide character constant or a wide string literal.
     Wide(&'a [u8]),

@@ -16,7 +16,9 @@ pub struct Function {
 /// An external declaration (C90 6.7).
 #[derive(Drop)]
 pub enum External {
+    /// A function's definition (6.7.1).
     Function(Function),
+    /// A declaration (6.7.2).
     Declaration(Decl),
 }
 

@@ -117,7 +117,7 @@ pub enum StepOperator {
 }
 
 impl BinaryOperator {
-    /// How it is spelled.
+    /// The mark that spells it.
     pub fn mark(self) -> Mark
         ensures { result ≡ spec.binary_mark self }
     {
@@ -146,7 +146,7 @@ impl BinaryOperator {
 }
 
 impl AssignOperator {
-    /// How it is spelled.
+    /// The mark that spells it.
     pub fn mark(self) -> Mark
         ensures { result ≡ spec.assign_mark self }
     {
@@ -167,7 +167,7 @@ impl AssignOperator {
 }
 
 impl Access {
-    /// How it is spelled.
+    /// The mark that spells it.
     pub fn mark(self) -> Mark
         ensures { result ≡ spec.access_mark self }
     {
@@ -179,7 +179,7 @@ impl Access {
 }
 
 impl StepOperator {
-    /// How it is spelled.
+    /// The mark that spells it.
     pub fn mark(self) -> Mark
         ensures { result ≡ spec.step_mark self }
     {

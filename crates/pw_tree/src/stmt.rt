@@ -6,7 +6,9 @@ use crate::expr::{Expr, Word};
 /// A statement (C90 6.6). Its token is its first, but that of an expression statement is its expression's first.
 #[cycle(stmt)]
 pub enum Stmt {
+    /// A compound statement (6.6.2).
     Block(Block),
+    /// An expression and `;` (6.6.3).
     Expression(Expr),
     /// A `;` alone (6.6.3).
     Empty {
@@ -89,8 +91,11 @@ pub struct ElseIf {
 
 /// A label (C90 6.6.1), at its first token.
 pub enum Label {
+    /// `case` and its value.
     Case { token: usize, value: Expr },
+    /// `default`.
     Default { token: usize },
+    /// An identifier, which a `goto` can name.
     Name(Word),
 }
 

@@ -11,7 +11,7 @@ use pw_token::TokenKind;
 use pw_tree::{Keyword, Mark, Word};
 use std::alloc::{AllocError, Global};
 
-/// Memory was refused.
+/// The fault of a spelling for which memory ran out.
 pub type NoMemory = AllocError;
 
 /// A token's kind and its bytes.

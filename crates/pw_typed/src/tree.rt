@@ -50,7 +50,7 @@ pub struct TExpr {
     pub form: TForm,
 }
 
-/// The forms of expressions.
+/// What an expression is, with its operands.
 #[cycle(texpr)]
 pub enum TForm {
     /// A word of an integer type.
@@ -59,25 +59,37 @@ pub enum TForm {
     Str(u32),
     /// A parameter or local by its place among the function's locals.
     Local(u32),
+    /// The object of the symbol.
     Global(Symbol),
+    /// The function of the symbol, as the operand of a `Decay` or an `Address`.
     Function(Symbol),
+    /// `+`, `-`, `~` or `!` of an operand.
     Unary(UnaryOperator, Box<TExpr>),
+    /// An operator on the values of two operands, from left to right.
     Binary(BinaryOperator, Box<TExpr>, Box<TExpr>),
+    /// `&&` or `||`, of which the second operand is evaluated only where the first leaves it open.
     Logic(LogicOperator, Box<TExpr>, Box<TExpr>),
+    /// `?:`: the condition, and what is chosen where it is not 0 and where it is.
     Cond(Box<TExpr>, Box<TExpr>, Box<TExpr>),
+    /// Two operands, of which the first one's value is dropped.
     Comma(Box<TExpr>, Box<TExpr>),
+    /// `=`: the lvalue, and the value in the type of the lvalue.
     Assign(Box<TExpr>, Box<TExpr>),
     /// `a op= b`: the type in which the operator works, to which the old value is converted and from
     /// which the new one is; then the lvalue and the right operand.
     Compound(BinaryOperator, CType, Box<TExpr>, Box<TExpr>),
+    /// `++` or `--`, before or behind an lvalue.
     Step(StepOperator, Box<TExpr>),
     /// A conversion to the node's type: of the constant 0 to a pointer type it gives the null pointer,
     /// and to void no value.
     Cast(Box<TExpr>),
+    /// A pointer to the first element of an array, or to a function.
     Decay(Box<TExpr>),
     /// A member of a structure or union, by its offset in bytes.
     Member(Box<TExpr>, u32),
+    /// The place that a pointer points to.
     Deref(Box<TExpr>),
+    /// A pointer to the place of an lvalue, or to a function.
     Address(Box<TExpr>),
     /// A call of a function that is named directly.
     Call(Symbol, Vec<TExpr>),
@@ -139,7 +151,7 @@ pub enum Initialiser {
     Bytes(u32, u32, Vec<TExpr>),
 }
 
-/// A statement.
+/// A statement, with the token at which it is told.
 #[cycle(tstmt)]
 pub struct TStmt {
     pub token: usize,
@@ -159,7 +171,9 @@ pub struct Arm {
 /// numbered from 0 in the order of the text.
 #[cycle(tstmt)]
 pub enum TStmtForm {
+    /// A statement that does nothing.
     Empty,
+    /// An expression, whose value is dropped.
     Expr(TExpr),
     /// A block: as many locals as `count` from the place `first` on live in it; then its initialisers
     /// in order, and then its statements.
@@ -172,16 +186,23 @@ pub enum TStmtForm {
     /// An `if` and the `else if`s behind it, of which each is an arm, and what stands behind a last
     /// `else`.
     If(Vec<Arm>, Option<Box<TStmt>>),
+    /// A condition, and the body.
     While(TExpr, Box<TStmt>),
+    /// The body, and the condition behind it.
     Do(Box<TStmt>, TExpr),
+    /// The three expressions, each where there is one, and the body.
     For(Option<TExpr>, Option<TExpr>, Option<TExpr>, Box<TStmt>),
     /// A switch: its value, its cases in the order of the text, the label of its default, its body.
     Switch(TExpr, Vec<Case>, Option<u32>, Box<TStmt>),
     /// A statement behind its labels: of cases, a default or a `goto`, in the order of the text.
     Label(Vec<u32>, Box<TStmt>),
+    /// A jump to the label of this number.
     Goto(u32),
+    /// Leaves the loop or switch around it.
     Break,
+    /// Goes on with the next turn of the loop around it.
     Continue,
+    /// A return, with the value in the function's result type where there is one.
     Return(Option<TExpr>),
 }
 
@@ -237,6 +258,7 @@ pub struct TFunction {
 /// A part of an object's initial bytes.
 #[derive(Drop)]
 pub enum TItem {
+    /// These bytes.
     Bytes(Vec<u8>),
     /// The address of an object or function plus a number.
     Address(Symbol, u32),

@@ -23,9 +23,13 @@ use std::alloc::{AllocError, Global};
 /// limit, with that number, or there is no memory.
 #[derive(Clone, Copy)]
 pub enum RecordFault {
+    /// The size passes its limit: so many bytes.
     TooLarge(u64),
+    /// The shape passes its limit: so many bytes.
     ShapeTooLong(u64),
+    /// The depth of the type passes its limit: so many levels.
     TooDeep(u64),
+    /// Memory ran out.
     NoMemory,
 }
 

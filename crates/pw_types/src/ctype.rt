@@ -6,11 +6,17 @@ use crate::kind::IntKind;
 /// is named by its number in the list of the module's records.
 #[cycle(ctype)]
 pub enum CType {
+    /// `void`.
     Void,
+    /// An integer type.
     Int(IntKind),
+    /// A pointer to this type.
     Pointer(Box<QType>),
+    /// An array of elements of this type, with its length where that is known.
     Array(Box<QType>, Option<u32>),
+    /// A function of this signature.
     Function(Box<Signature>),
+    /// The structure or union of this number.
     Record(u32),
 }
 

@@ -10,14 +10,23 @@ use pw_value::Value;
 /// enumerated type is `int`.
 #[derive(Clone, Copy)]
 pub enum IntKind {
+    /// `char`
     Char,
+    /// `signed char`
     SChar,
+    /// `unsigned char`
     UChar,
+    /// `short`
     Short,
+    /// `unsigned short`
     UShort,
+    /// `int`, or an enumerated type
     Int,
+    /// `unsigned int`
     UInt,
+    /// `long`
     Long,
+    /// `unsigned long`
     ULong,
 }
 

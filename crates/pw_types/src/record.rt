@@ -6,7 +6,9 @@ use pw_value::{Name, Shape};
 /// Whether members stand one after another or all at the beginning.
 #[derive(Clone, Copy, PartialEq, Eq)]
 pub enum RecordKind {
+    /// Members stand one after another.
     Structure,
+    /// All members stand at the beginning.
     Union,
 }
 

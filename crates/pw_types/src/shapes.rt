@@ -107,7 +107,7 @@ pub(crate) fn opening(kind: RecordKind) -> u8
     }
 }
 
-/// The bracket that ends it.
+/// The bracket that ends the shape of a structure or union.
 pub(crate) fn closing(kind: RecordKind) -> u8
     ensures { result ≡ spec.closing kind }
 {

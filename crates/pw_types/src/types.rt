@@ -34,7 +34,7 @@ impl Model for Types {
 }
 
 impl Types {
-    /// No types.
+    /// A module without structures and unions yet.
     pub fn new(alloc: Global) -> Types
         ensures { result ≡ [] }
     {

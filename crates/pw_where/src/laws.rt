@@ -24,7 +24,7 @@ pub fn a_run_comes_or_passes()
     ensures { (entries : List ℕ) (start : State) (k m budget : ℕ) (s : State) (p : Progress) → IsCall entries start k m s → m < budget → Passes entries start k budget p → ⊥ }
 {}
 
-/// A walk over frames has one end.
+/// A walk over frames has one end: two values, or addresses at which it is lost, to which it comes are the same.
 pub fn a_walk_has_one_end()
     ensures { (seen : Seen) (at : At) (a b : Result ℕ ℕ) → WalksTo seen at a → WalksTo seen at b → a ≡ b }
 {}

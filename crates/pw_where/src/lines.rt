@@ -19,7 +19,9 @@ use std::alloc::{AllocError, Global};
 /// Lines, or the address at which a walk is lost.
 #[derive(Drop)]
 pub enum Told {
+    /// The lines, with their newlines.
     Lines(Vec<u8>),
+    /// The address at which the walk is lost.
     Lost(u32),
 }
 

@@ -10,7 +10,9 @@ use pw_machine::{Machine, Stop, runs_add_up};
 /// Where a run came to: it stands before the call that is sought, or it stopped before.
 #[derive(Clone, Copy)]
 pub enum Reached {
+    /// It stands before the call that is sought.
     AtCall,
+    /// It stopped before that call, so.
     StoppedBefore(Stop),
 }
 
