@@ -132,8 +132,7 @@ pub fn last_reach(begin: u32, slots: &[u32]) -> u32
     at
 }
 
-/// The offset of each slot from the stack pointer, of slots that stand one below the other from `begin` bytes below it
-/// on.
+/// The offsets of slots from the stack pointer.
 pub fn slot_offsets(alloc: Global, begin: u32, slots: &[u32]) -> Result<Items<i32>, AllocError>
     requires { last_reach begin slots.now < 2 ^ 31 }
     ensures { IfOk result (λ offsets. offsets ≡ map below (reaches_from begin slots.now)) }

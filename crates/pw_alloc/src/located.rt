@@ -6,9 +6,7 @@ use pw_webflow::WebFn;
 /// Where a temporary stands: in the frame, at an offset from the stack pointer, or in a register.
 #[derive(Clone, Copy)]
 pub enum Place {
-    /// In the frame, so many bytes from the stack pointer.
     Slot(i32),
-    /// In the general register of this number.
     Reg(u8),
 }
 

@@ -23,7 +23,7 @@ use Rattle.pw_build_files.specs.Programs.{IsCounted}
 use Rattle.pw_build_files.specs.FromBuild.Builds.{first_phases}
 use Rattle.pw_build_files.specs.Building.{BuildOutcome, Outcome, kept_objects, puts_of}
 use Rattle.pw_build_files.specs.Seen.{SeenOutcome}
-pub use Rattle.pw_build_objects.specs.Options.{AreOpts}
+pub use Rattle.pw_build_opts.specs.Options.{AreOpts}
 use Rattle.pw_build_files.specs.Genuine.{IsBuiltName}
 
 -- the report of an outcome

@@ -2,6 +2,5 @@ pub mod Programs
 pub mod Kept
 pub mod Choosing
 pub mod Preparing
-pub mod Options
 pub mod Showing
 pub mod Counting

@@ -17,7 +17,7 @@ use Rattle.pw_top.specs.FromLawSession.FromSession.FromBuild.BuildFault.TheVaria
 use Rattle.pw_top.specs.FromLawSession.FromSession.FromBuildFiles.Building.{Outcome}
 use Rattle.pw_top.specs.FromLawSession.FromSession.FromBuildFiles.Driving.{built_effect}
 use Rattle.pw_top.specs.FromLawSession.FromSession.FromBuildFiles.Genuine.{KeepsGenuine}
-use Rattle.pw_top.specs.FromLawSession.FromSession.FromBuildFiles.Outcomes.{AreOpts, fault_answer}
+use Rattle.pw_top.specs.FromLawSession.FromSession.FromBuildFiles.Outcomes.{fault_answer}
 use Rattle.pw_top.specs.FromLawSession.FromSession.FromBuildFiles.Seen.{SeenOutcome}
 use Rattle.pw_top_words.specs.CommandLine.{command_of}
 use Rattle.pw_top_words.specs.declared.commands.Command.{Command}
@@ -105,12 +105,11 @@ says_behind runs one images exact tree checks law opts steps within answer told 
     let kept : new ≡ Some left.0 = subst (λ o. Keeps o new) left.1 keeps in
     let over : AnswersAs (Some (Run steps)) answer left.0 new input input' taken taken' =
     subst (λ i. RunsOver steps answer (Some left.0) new i input' taken taken') rest (subst (λ o. RunsOver steps answer o new later input' taken taken') left.1 ran) in
-    let are : AreOpts opts = record { colours = within.0; least = within.1.0; most = within.1.1 } in
     subst (λ o. IfSome o (λ now. HoldsShortImage now.files → SaysHi answer taken taken')) (sym kept) (λ short.
-    let as_go = law both over.answer told new input input' taken taken' (record { are = are; genuine = genuine; left = left.0; built = subst (λ o. BuildsFirst (Some (Build opts)) Done told o) left.1 built; short = short; ran = over.does }) in
+    let as_go = law both over.answer told new input input' taken taken' (record { are = within; genuine = genuine; left = left.0; built = subst (λ o. BuildsFirst (Some (Build opts)) Done told o) left.1 built; short = short; ran = over.does }) in
     let streams_left = subst (λ i. LeavesStreams answer i input' taken taken') rest streams in
     ⊎_elim {C = SaysHi answer taken taken'} (λ s. subst (λ a. SaysHi a taken taken') (sym s)
-    (says_built runs one images exact tree checks told new both holds within.1.0 input bytes over.answer input' taken taken' (λ e. stays answer (Some input) input' taken taken' streams_left (s ∙ e)) (as_go.1 genuine)))
+    (says_built runs one images exact tree checks told new both holds within.least input bytes over.answer input' taken taken' (λ e. stays answer (Some input) input' taken taken' streams_left (s ∙ e)) (as_go.1 genuine)))
     (λ n. no_memory_says answer taken taken' n) over.answered)
 
 -- of a store and an input that tell what they hold

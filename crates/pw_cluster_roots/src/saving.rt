@@ -68,8 +68,7 @@ pub fn saved(alloc: Global, place: usize, root: usize, need: u8) -> Result<Items
     }
 }
 
-/// The registers that the function at `place` is free to use without saving them, since its root saves them; a root is
-/// free to use none.
+/// The registers that it is free to use.
 pub fn free(alloc: Global, place: usize, root: usize, need: u8) -> Result<Items<u8>, NoMemory>
     requires { need ≤ need_limit }
     ensures { IfOk result (λ v. v ≡ free_by place root need) }

@@ -37,8 +37,7 @@ pub fn free_registers_are_saved_above()
     ensures of_no_web { (roots needs : List ℕ) (f q : ℕ) → AllByRecursion (λ n. n ≤ need_limit) needs → Shares roots needs f q → (first_register + colour_limit ≤ q) × (q ≤ last_register) }
 {}
 
-/// By names too, as soundness of directives has it, a register that a function is free to use is saved by its root, and
-/// by each function from which calls lead to it without the root, unless that is free to use it too.
+/// So it is by names, as soundness of directives has it: its root is the one of that graph.
 pub fn free_registers_are_saved_by_name()
     ensures { (ss : List Summary) (g : CallGraph) (roots needs : List ℕ) (n : Graph) → IsGraphOf ss g → AreRoots ss g roots → IsNamed g n → TellsMovable ss n → (f : ℕ) (h : List ℕ) (q : ℕ) → slice_get g.functions f ≡ Some h → Contains (free_at roots needs f) q → IsSavedAboveNamed g n roots needs h q }
 {}

@@ -8,7 +8,7 @@ use Rattle.pw_types.specs.TypeTrees.{CType, Int, type_of}
 use Rattle.pw_types.specs.Shapes.{letter_of}
 use Rattle.pw_types.specs.declared.kind.IntKind.TheVariants as K
 use Rattle.pw_types.specs.declared.tree.UnaryOperator.TheVariants.{Plus, Minus, Complement, Not}
-use Rattle.pw_types.specs.TypedTrees.{Expression, Node, Number, Str, Local, Global, Function, Unary, Binary, Logic, Cond, Comma, Assign, Compound, Step, Cast, Decay, Member, Deref, Address, Call, CallValue, Expressions, NoExpression, OneExpression, type_at, Initialiser, Value as ByValue, Bytes as ByBytes, Statement, Empty, Evaluate, Block, If, While, Do, For, Switch, Label, Goto, Break, Continue, Return, Arms, NoArm, Arm, Otherwise, NoElse, Else, Statements, NoStatement, OneStatement}
+use Rattle.pw_types.specs.TypedTrees.{Expression, Node, Number, Str, Local, Global, Function, Unary, Binary, Logic, Cond, Comma, Assign, Compound, Step, Cast, Decay, Member, Deref, Address, Call, CallValue, Expressions, NoExpression, OneExpression, type_at, Initialiser, Value as ByValue, Bytes as ByBytes, Statement, Evaluate, Block, If, While, Do, For, Switch, Label, Return, Arms, NoArm, Arm, Otherwise, NoElse, Else, Statements, NoStatement, OneStatement}
 use Rattle.pw_cmean.specs.Worlds.{Program, World, Body, Defined, Library, full_name, function_named}
 use Rattle.pw_cmean.specs.Acts.{Act, Site, Bound, give, ◌>>=◌, ◌>>◌}
 use Rattle.pw_cmean.specs.Operators.{number_for}
@@ -252,7 +252,6 @@ mutual
 
   pub meaning-s : (s : Statement) (letter : ℕ) (at : Entry) (cs : CallList) (e : Env) → IsTypedStatement e.world.program e.home.name letter s → IsFine e.world.program cs
       → Sound (IsFlow letter) (meaning s at cs e)
-  meaning-s (Empty t) letter at cs e w h = give-s (IsFlow letter) Normal tt
   meaning-s (Evaluate t a) letter at cs e w h = bind-s (answer-s a cs e w h) λ o i. give-s (IsFlow letter) Normal tt
   meaning-s (Block t first count initialisers list) letter at cs e w h =
       with_locals-s count first _ e λ numbers.
@@ -293,12 +292,10 @@ mutual
       bind-s (meaning-s body letter (At_label l) cs e w.1 h) λ f i. after_switch-s letter f i
   meaning-s (Label t labels body) letter at cs e w h =
       taking_up-s e.world.program letter labels _ at cs h λ at' ds k. meaning-s body letter _ ds e w k
-  meaning-s (Goto t l) letter at cs e w h = give-s (IsFlow letter) (Goes l) tt
-  meaning-s (Break t) letter at cs e w h = give-s (IsFlow letter) Breaks tt
-  meaning-s (Continue t) letter at cs e w h = give-s (IsFlow letter) Continues tt
-  meaning-s (Return t None) letter at cs e w h = give-s (IsFlow letter) (Returns None) tt
   meaning-s (Return t (Some a)) letter at cs e w h =
       bind-s (value-s a cs e w.0 h) λ v i. give-s (IsFlow letter) (Returns (Some v)) (type_of (type_at a), w.1, i)
+  -- it leaves in one way
+  meaning-s s letter at cs e w h = give-s (IsFlow letter) _ tt
 
   pub items-s : (ss : Statements) (letter : ℕ) (at : Entry) (cs : CallList) (e : Env) → AreTypedStatements e.world.program e.home.name letter ss → IsFine e.world.program cs
       → Sound (IsFlow letter) (items ss at cs e)

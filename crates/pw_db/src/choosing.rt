@@ -10,7 +10,7 @@ use pw_value::Name;
 use std::alloc::{AllocError, Global};
 
 impl Web {
-    /// A copy of the web.
+    /// Another web of the same.
     pub fn copy(&self, alloc: Global) -> Result<Web, AllocError>
         ensures { IfOk result (λ w. w ≡ self.now) }
     {
@@ -55,7 +55,7 @@ impl Directives {
         !self.webs.is_empty() || (!self.free.is_empty() || !self.saves.is_empty())
     }
 
-    /// A copy of the directives.
+    /// The same directives again.
     pub fn copy(&self, alloc: Global) -> Result<Directives, AllocError>
         ensures { IfOk result (λ d. d ≡ self.now) }
     {

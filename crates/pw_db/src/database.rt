@@ -19,9 +19,7 @@ pub struct Web {
 /// its register.
 #[derive(Clone, Copy, PartialEq)]
 pub enum Role {
-    /// It loads the global into the register, and stores it back where the web has written it.
     Entry,
-    /// It finds the global in the register.
     Member,
 }
 
@@ -41,7 +39,7 @@ pub const KIND: u32 = 0x5041_5744;
 /// The first version of the form of a database's file, in which no function shares registers.
 pub const FIRST: u32 = 1;
 
-/// The last version of the form of a database's file, in which functions may share registers.
+/// The last one.
 pub const VERSION: u32 = 2;
 
 /// Functions in byte order of their names, each with its directives. Webs of one number are one web. The

@@ -16,7 +16,7 @@ pub const LAST_REGISTER: u8 = 18;
 /// that it does not.
 pub const LAST_TEMPORARY: u8 = 20;
 
-/// The most registers that webs may have are as many as the definitions say.
+/// The limit is the one that its definition speaks of.
 pub fn limit_of_webs()
     ensures colours { COLOUR_LIMIT ≡ colour_limit }
 {}

@@ -30,7 +30,7 @@ pub(crate) struct Seen<'b> {
 }
 
 impl<'b> Known<'b> {
-    /// A copy of the web that owns its name.
+    /// The web, with a name of its own.
     pub fn web(self, alloc: Global) -> Result<Web, AllocError>
         ensures { IfOk result (λ w. w ≡ known_web self.entry) }
     {
@@ -45,7 +45,7 @@ impl<'b> Known<'b> {
 }
 
 impl<'b> Seen<'b> {
-    /// An empty list of webs.
+    /// No webs.
     pub fn new(alloc: Global) -> Seen<'b>
         ensures { map known_web result.webs.items ≡ [] }
     {

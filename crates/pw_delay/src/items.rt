@@ -38,10 +38,7 @@ pub enum Turn {
 /// A word, a turn with the word in its delay slot, or the beginning of a block.
 #[derive(Drop)]
 pub enum Item {
-    /// A word.
     Plain(Word),
-    /// A turn, with the word in its delay slot where there is one.
     Turns(Turn, Option<Word>),
-    /// The beginning of the block of this number.
     Mark(u32),
 }

@@ -9,7 +9,7 @@ use pw_inst::{FixKind, Inst, Line, RETURN_ADDRESS, ROUTINE_LINK, Symbol};
 use pw_items::Items;
 use std::alloc::{AllocError, Global};
 
-/// A copy of a symbol.
+/// The same symbol again.
 pub fn copy_symbol(alloc: Global, symbol: &Symbol) -> Result<Symbol, AllocError>
     ensures { IfOk result (λ s. s ≡ symbol.now) }
 {
@@ -119,7 +119,7 @@ fn put(items: &mut Items<Item>, item: Option<Item>) -> Result<(), AllocError>
     }
 }
 
-/// The items of lines, in order. Of the turns only a call through a register has a word in its delay slot yet.
+/// The items of lines.
 pub fn slot(alloc: Global, lines: &[Line]) -> Result<Items<Item>, AllocError>
     ensures { IfOk result (λ items. items ≡ slotted lines.now) }
 {

@@ -9,9 +9,7 @@ use std::alloc::{AllocError, AllocFailed};
 /// A field is short or breaks its rule, with `left` bytes left where it begins, or there is no memory.
 #[derive(Clone, Copy, Debug)]
 pub enum FieldFault {
-    /// A field is short or breaks its rule, where so many bytes are left.
     Fault { left: usize },
-    /// Memory ran out.
     NoMemory,
 }
 

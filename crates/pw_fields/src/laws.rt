@@ -18,7 +18,7 @@ pub fn single_fields_are_spelled()
     ensures truth { Spells flag (λ b. Unit {0}) flag_at }
 {}
 
-/// The table of names, and a name by its index in it, have one spelling each, and what spells one is read as it.
+/// The same of the table of names and of a name by its index in it.
 #[tactic(auto, using(crate::proofs::NameLaws::names_spell, crate::proofs::NameLaws::name_spells))]
 pub fn names_are_spelled()
     ensures table { Spells name_table IsNameTable names_at }

@@ -71,7 +71,7 @@ pub fn read_names(alloc: Global, bytes: &[u8]) -> Result<(Vec<Name>, &[u8]), Fie
     read_counted(alloc, bytes)
 }
 
-/// Reads the index of a name, and answers the name of the table that has it.
+/// A name of the table, by its index.
 #[tactic(auto, unfolding(crate::specs::FieldNames::name_at))]
 pub fn read_name<'a, 'b>(
     names: &'b [Name],
@@ -99,7 +99,7 @@ pub fn find_name(names: &[Name], name: &Name) -> Option<usize>
     }
 }
 
-/// Adds the index of a name in the table.
+/// A name of the table, by its index.
 pub fn push_name(out: &mut Vec<u8>, names: &[Name], name: &Name) -> Result<(), AllocError>
     requires table { IsNameTable names.now }
     requires stands { Contains names.now name.now }

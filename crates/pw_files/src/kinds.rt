@@ -38,7 +38,7 @@ pub fn read_kind(bytes: &[u8]) -> Result<(Option<Kind>, &[u8]), FieldFault>
     Ok((kind, rest))
 }
 
-/// Reads the kind of a scalar, which is from 1 to 5.
+/// A scalar's kind.
 #[tactic(auto, unfolding(crate::specs::Kinds::scalar_at))]
 pub fn read_scalar(bytes: &[u8]) -> Result<(Kind, &[u8]), FieldFault>
     ensures found { AnswersField (λ x. (x.0, x.1.now)) result (scalar_at bytes.now) }
@@ -75,7 +75,7 @@ pub fn push_kind(out: &mut Vec<u8>, kind: Option<Kind>) -> Result<(), AllocError
     }
 }
 
-/// Adds the kind of a scalar.
+/// A scalar's kind.
 pub fn push_scalar(out: &mut Vec<u8>, kind: Kind) -> Result<(), AllocError>
     ensures { OnOk result (out.new.items ≡ out.old.items ++ scalar kind) }
 {

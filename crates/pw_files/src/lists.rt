@@ -52,7 +52,7 @@ fn is_text_above(before: Option<&[u8]>, text: &[u8]) -> bool
     }
 }
 
-/// Reads a text, which has to be above the one before it in byte order, where there is one; it stays where it is.
+/// A text above the one before it, in place.
 #[tactic(auto, unfolding(crate::specs::Names::text_above_at))]
 pub fn read_text_above<'a>(
     before: Option<&[u8]>,

@@ -145,7 +145,7 @@ fn push_shaped_items(
     Ok(())
 }
 
-/// Adds a list of names, each by its index, with their shapes.
+/// A list of names with their shapes.
 #[tactic(auto, unfolding(crate::specs::Rising::counted))]
 pub fn push_shaped_list(
     out: &mut Vec<u8>,

@@ -7,7 +7,7 @@ ghost use Rattle.pw_fix.specs.Words.{HasBit};
 
 use std::alloc::{AllocError as NoMemory, Global};
 
-/// Whether bit `i` is set in these words, of which the first has the bits 0 to 63.
+/// Whether a bit is set.
 pub(crate) fn has_bit(words: &[u64], i: usize) -> bool
     ensures { IsTrue result ↔ HasBit words.now i }
 {
@@ -28,7 +28,7 @@ pub(crate) fn set_bit(words: &mut [u64], i: usize) -> bool
     word & bit == 0
 }
 
-/// The least number of a bit that is set, from `from` on, or None where there is none.
+/// The least bit that is set, from `from` on.
 pub(crate) fn next_bit(words: &[u64], from: usize) -> Option<usize>
     requires { length words.now ≤ 2 ^ 58 }
     ensures found { IfSome result (λ i. (from ≤ i) × HasBit words.now i) }

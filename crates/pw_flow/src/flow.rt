@@ -10,9 +10,7 @@ use pw_value::{Kind, Name, Shape};
 /// plus a number.
 #[derive(Drop)]
 pub enum Item {
-    /// These bytes.
     Bytes(Items<u8>),
-    /// The address of the name plus the number, in four bytes.
     Address(Name, u32),
 }
 
@@ -32,9 +30,7 @@ pub struct FlowGlobal {
 /// An operation on one number: its negative, or its bits turned.
 #[derive(Clone, Copy)]
 pub enum UnKind {
-    /// The negative in two's complement.
     Neg,
-    /// Each bit turned over.
     Not,
 }
 
@@ -42,56 +38,33 @@ pub enum UnKind {
 /// U as unsigned; the last six give 1 or 0.
 #[derive(Clone, Copy)]
 pub enum BinKind {
-    /// The sum.
     Add,
-    /// The difference.
     Sub,
-    /// The bits that both have.
     And,
-    /// The bits that one has, or both.
     Or,
-    /// The bits that one has alone.
     Xor,
-    /// The low 32 bits of the product.
     Mul,
-    /// The quotient, as signed numbers.
     DivS,
-    /// The quotient, as unsigned numbers.
     DivU,
-    /// The remainder, as signed numbers.
     RemS,
-    /// The remainder, as unsigned numbers.
     RemU,
-    /// The first shifted left by the second.
     Shl,
-    /// The first shifted right by the second, filled with its sign.
     ShrS,
-    /// The first shifted right by the second, filled with zeros.
     ShrU,
-    /// Whether they are equal.
     Eq,
-    /// Whether they differ.
     Ne,
-    /// Whether the first is less, as signed numbers.
     LtS,
-    /// Whether the first is less or equal, as signed numbers.
     LeS,
-    /// Whether the first is less, as unsigned numbers.
     LtU,
-    /// Whether the first is less or equal, as unsigned numbers.
     LeU,
 }
 
 /// The low bits of a number, extended by their sign or by zeros.
 #[derive(Clone, Copy)]
 pub enum ExtKind {
-    /// The low 8 bits, extended by their sign.
     S8,
-    /// The low 8 bits, extended by zeros.
     U8,
-    /// The low 16 bits, extended by their sign.
     S16,
-    /// The low 16 bits, extended by zeros.
     U16,
 }
 
@@ -103,17 +76,12 @@ pub enum Op {
     Const(u32, u32),
     /// t becomes what a holds.
     Copy(u32, u32),
-    /// The first temporary becomes the operation's result on the second.
     Un(UnKind, u32, u32),
-    /// The first temporary becomes the operation's result on the second and the third.
     Bin(BinKind, u32, u32, u32),
-    /// The first temporary becomes the extended low bits of the second.
     Ext(ExtKind, u32, u32),
     /// The address of a global object plus a number of bytes.
     AddrGlobal(u32, Name, u32),
-    /// The address of the slot of this index.
     AddrSlot(u32, u32),
-    /// The address of a function.
     AddrFn(u32, Name),
     /// A scalar global object is read.
     LoadG(u32, Name, Kind),
@@ -134,11 +102,9 @@ pub enum Op {
 /// Where a block goes on.
 #[derive(Clone, Copy)]
 pub enum End {
-    /// To this block.
     Jump(u32),
     /// To the first block where the temporary is not 0, and else to the second.
     Branch(u32, u32, u32),
-    /// The function returns, with what the temporary holds where there is one.
     Return(Option<u32>),
 }
 

@@ -23,7 +23,7 @@ pub fn add_op<'a>(names: &mut Vec<&'a Name>, op: &'a Op) -> Result<(), AllocErro
     Ok(())
 }
 
-/// Adds the names whose addresses an object's items hold.
+/// Adds the names that items name.
 pub fn add_items<'a>(names: &mut Vec<&'a Name>, items: &'a [(u32, Item)]) -> Result<(), AllocError>
     ensures { OnOk result (map (λ name. name.now) names.new.items ≡ map (λ name. name.now) names.old.items ++ flat_map (λ placed. item_names placed.1) items.now) }
 {

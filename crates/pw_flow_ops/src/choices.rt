@@ -22,7 +22,7 @@ pub fn read_one_of<'a, T: Copy>(choices: &[T], bytes: &'a [u8]) -> Result<(T, &'
     }
 }
 
-/// Reads which operation on one number follows.
+/// Which operation on one number.
 pub fn read_un_kind(bytes: &[u8]) -> Result<(UnKind, &[u8]), FieldFault>
     ensures found { AnswersField (λ x. (x.0, x.1.now)) result (one_of_at un_kinds bytes.now) }
     ensures no_memory { IfErr result (λ e. e ≢ FieldFault.NoMemory) }
@@ -30,7 +30,7 @@ pub fn read_un_kind(bytes: &[u8]) -> Result<(UnKind, &[u8]), FieldFault>
     read_one_of(&UN_KINDS, bytes)
 }
 
-/// Reads which operation on two numbers follows.
+/// Which operation on two numbers.
 pub fn read_bin_kind(bytes: &[u8]) -> Result<(BinKind, &[u8]), FieldFault>
     ensures found { AnswersField (λ x. (x.0, x.1.now)) result (one_of_at bin_kinds bytes.now) }
     ensures no_memory { IfErr result (λ e. e ≢ FieldFault.NoMemory) }
@@ -38,7 +38,7 @@ pub fn read_bin_kind(bytes: &[u8]) -> Result<(BinKind, &[u8]), FieldFault>
     read_one_of(&BIN_KINDS, bytes)
 }
 
-/// Reads which low bits are extended, and how.
+/// Which low bits.
 pub fn read_ext_kind(bytes: &[u8]) -> Result<(ExtKind, &[u8]), FieldFault>
     ensures found { AnswersField (λ x. (x.0, x.1.now)) result (one_of_at ext_kinds bytes.now) }
     ensures no_memory { IfErr result (λ e. e ≢ FieldFault.NoMemory) }
@@ -46,7 +46,7 @@ pub fn read_ext_kind(bytes: &[u8]) -> Result<(ExtKind, &[u8]), FieldFault>
     read_one_of(&EXT_KINDS, bytes)
 }
 
-/// Reads which operation follows.
+/// Which operation.
 pub fn read_op_code(bytes: &[u8]) -> Result<(OpCode, &[u8]), FieldFault>
     ensures found { AnswersField (λ x. (x.0, x.1.now)) result (one_of_at op_codes bytes.now) }
     ensures no_memory { IfErr result (λ e. e ≢ FieldFault.NoMemory) }

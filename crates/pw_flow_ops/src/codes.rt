@@ -5,46 +5,28 @@ use pw_flow::{BinKind, ExtKind, UnKind};
 /// Which operation follows, in the order of their bytes.
 #[derive(Clone, Copy)]
 pub enum OpCode {
-    /// `Op::Const`
     Const,
-    /// `Op::Copy`
     Copy,
-    /// `Op::Un`
     Un,
-    /// `Op::Bin`
     Bin,
-    /// `Op::Ext`
     Ext,
-    /// `Op::AddrGlobal`
     AddrGlobal,
-    /// `Op::AddrSlot`
     AddrSlot,
-    /// `Op::AddrFn`
     AddrFn,
-    /// `Op::LoadG`
     LoadG,
-    /// `Op::StoreG`
     StoreG,
-    /// `Op::Load`
     Load,
-    /// `Op::Store`
     Store,
-    /// `Op::Move`
     Move,
-    /// `Op::Call`
     Call,
-    /// `Op::CallInd`
     CallInd,
 }
 
-/// Which end of a block follows, in the order of their bytes.
+/// Which end follows.
 #[derive(Clone, Copy)]
 pub enum EndCode {
-    /// `End::Jump`
     Jump,
-    /// `End::Branch`
     Branch,
-    /// `End::Return`
     Return,
 }
 

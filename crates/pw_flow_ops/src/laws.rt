@@ -21,7 +21,7 @@ pub fn operations_are_spelled()
     ensures { (names : List (List ℕ)) → IsNameTable names → (temps slots : ℕ) → temps < 2 ^ 31 → slots < 2 ^ 31 → Spells (op names) (OpFits names temps slots) (op_at names temps slots) }
 {}
 
-/// The end of a block has one spelling, and what spells one is read as that end.
+/// The same of the ends of blocks.
 pub fn ends_are_spelled()
     ensures { (temps blocks : ℕ) → temps < 2 ^ 31 → blocks ≤ 2 ^ 32 → Spells ending (IsEnd temps blocks) (end_at temps blocks) }
 {}

@@ -274,7 +274,7 @@ fn read_op<'a>(
     read_operands(alloc, names, at, code, rest)
 }
 
-/// Reads as many operations as `count` says, and answers them with what is behind them.
+/// So many operations.
 pub fn read_ops<'a>(
     alloc: Global,
     names: &[Name],

@@ -26,7 +26,7 @@ fn push_arguments(out: &mut Vec<u8>, args: &[u32]) -> Result<(), AllocError>
     push_words(out, args)
 }
 
-/// Adds the temporary of a result, or the number that stands for none.
+/// A temporary, or none.
 pub fn push_result(out: &mut Vec<u8>, t: Option<u32>) -> Result<(), AllocError>
     ensures { OnOk result (out.new.items ≡ out.old.items ++ result_text t) }
 {

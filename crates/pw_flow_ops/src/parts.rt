@@ -19,7 +19,7 @@ use std::alloc::Global;
 /// What stands for a result that is not there.
 pub const ABSENT: u32 = u32::MAX;
 
-/// Reads a number, which has to be below a count.
+/// A number below a count.
 pub fn read_below(count: usize, bytes: &[u8]) -> Result<(u32, &[u8]), FieldFault>
     ensures found { AnswersField (λ x. (x.0, x.1.now)) result (below_at count bytes.now) }
     ensures below { IfOk result (λ x. x.0 < count) }
@@ -64,7 +64,7 @@ pub fn read_named<'a, 'b>(
     }
 }
 
-/// Reads the temporary of a result, which has to be below `temps`, or the number that stands for none.
+/// A temporary, or none.
 #[tactic(auto, unfolding(crate::specs::Reading::result_at))]
 pub fn read_result(temps: u32, bytes: &[u8]) -> Result<(Option<u32>, &[u8]), FieldFault>
     ensures found { AnswersField (λ x. (x.0, x.1.now)) result (result_at temps bytes.now) }

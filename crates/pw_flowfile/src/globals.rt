@@ -21,12 +21,10 @@ use pw_value::program_names::StartName;
 use pw_value::{Kind, Name, Shape};
 use std::alloc::Global;
 
-/// Which item of an object follows, in the order of their bytes.
+/// Which item follows.
 #[derive(Clone, Copy)]
 pub enum ItemForm {
-    /// `Item::Bytes`
     Bytes,
-    /// `Item::Address`
     Address,
 }
 
@@ -195,7 +193,7 @@ fn read_global<'a>(
     read_global_body(alloc, StartName::Refused, names, name, rest)
 }
 
-/// Reads as many objects as `count` says, and answers them with what is behind them.
+/// So many objects.
 pub fn read_globals<'a>(
     alloc: Global,
     names: &[Name],
@@ -247,7 +245,7 @@ fn read_declaration<'a>(
     read_declared_shape(alloc, name, rest)
 }
 
-/// Reads as many declared names, each with its shape, as `count` says, and answers them with what is behind them.
+/// So many declared names.
 pub fn read_declared<'a>(
     alloc: Global,
     names: &[Name],

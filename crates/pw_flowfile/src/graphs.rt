@@ -183,7 +183,7 @@ fn read_function<'a>(
     read_function_body(alloc, names, name, rest)
 }
 
-/// Reads as many functions as `count` says, and answers them with what is behind them.
+/// So many functions.
 pub fn read_functions<'a>(
     alloc: Global,
     names: &[Name],

@@ -135,7 +135,7 @@ fn callees(
     }
 }
 
-/// The members of a set in rising order.
+/// The numbers of a set, rising.
 pub fn numbers(alloc: Global, row: &BitRow) -> Result<Vec<usize>, AllocError>
     ensures { IfOk result (λ v. v.items ≡ members row.now) }
 {

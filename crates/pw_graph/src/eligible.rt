@@ -42,7 +42,7 @@ pub fn escaped_names(alloc: Global, summaries: &[Summary]) -> Result<Vec<Name>, 
     table_of(alloc, names)
 }
 
-/// Whether a name stands in a list of names in byte order.
+/// Whether a name is one of these.
 pub fn is_among(names: &[Name], name: &Name) -> bool
     requires { IsRisingFrom [] names.now }
     ensures { result ≡ among names.now name.now }
@@ -106,7 +106,7 @@ fn collected<'a>(
     Ok(found)
 }
 
-/// The eligible globals of all modules, in the byte order of their names.
+/// Those of all modules, in byte order.
 pub(crate) fn eligible<'a>(
     alloc: Global,
     summaries: &'a [Summary],

@@ -105,7 +105,7 @@ fn add_calls(edges: &mut Vec<(usize, usize)>, from: usize, row: &[u32]) -> Resul
     Ok(())
 }
 
-/// The edges of a call graph, each from a function to one that it calls, by their places.
+/// All calls.
 pub(crate) fn calls_of(alloc: Global, graph: &CallGraph) -> Result<Vec<(usize, usize)>, NoMemory>
     ensures { IfOk result (λ v. v.items ≡ edges_from 0 graph.now.calls) }
 {

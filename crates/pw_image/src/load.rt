@@ -16,9 +16,7 @@ use std::alloc::{AllocError, Global};
 /// of the first field, in order, that is short or breaks its rule.
 #[derive(Clone, Copy, Debug)]
 pub enum LoadError {
-    /// The bytes are no image's file: the field at this offset is short or breaks its rule.
     LoadFault { at: usize },
-    /// Memory ran out.
     NoMemory,
 }
 

@@ -9,7 +9,7 @@ use crate::fields::{low_sign, place, twos_complement};
 /// The instruction that does nothing.
 pub const NOP: Inst = Inst::Or { r1: 0, r2: 0, t: 0 };
 
-/// `NOP` is the instruction that does nothing of the instruction table, and its fields are in range.
+/// It is the one of the instruction table, and its fields are in range.
 #[tactic(auto, unfolding(crate::specs::InstructionTable::IsInRange))]
 pub fn nop_is_an_instruction()
     ensures nop { NOP ≡ nop }

@@ -6,13 +6,13 @@ ghost use Rattle.pw_inst.specs.Registers as registers;
 /// For addresses and small things on the way.
 pub const HELP: u8 = 1;
 
-/// The register of the address to which a function returns.
+/// The return address.
 pub const RETURN_ADDRESS: u8 = 2;
 
-/// The register for an operation's second operand on the way.
+/// The second operand.
 pub const SECOND: u8 = 21;
 
-/// The register for an operation's first operand on the way.
+/// The first operand.
 pub const FIRST: u8 = 22;
 
 /// The first argument; the others follow downward.
@@ -24,7 +24,7 @@ pub const ANSWER: u8 = 28;
 /// What a routine or an operation gives.
 pub const RESULT: u8 = 29;
 
-/// The register of the stack pointer, which stands at the end of the frame.
+/// The stack pointer.
 pub const STACK_POINTER: u8 = 30;
 
 /// The address behind a routine's call.

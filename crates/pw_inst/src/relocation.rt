@@ -6,11 +6,8 @@ use pw_value::Name;
 /// displacement of 14 bits, or the displacement of BL.
 #[derive(Clone, Copy, Debug)]
 pub enum FixKind {
-    /// The left part of an address, in LDIL.
     Ldil,
-    /// The right part of an address, in a displacement of 14 bits.
     Im14,
-    /// The displacement of BL.
     Bl,
 }
 
@@ -19,13 +16,9 @@ pub enum FixKind {
 /// its place, below `ROUTINE_COUNT`.
 #[derive(Debug, Drop)]
 pub enum Symbol {
-    /// The function or object of this name.
     Named(Name),
-    /// The word of the relocation's own function that has this number.
     Word(u32),
-    /// The end of the stack.
     StackLimit,
-    /// The routine at this place, below `ROUTINE_COUNT`.
     Routine(u8),
 }
 

@@ -2,7 +2,7 @@
 use Rattle.std.proofs.Common.{ℕ, zero, suc, ◌≡◌, refl, ap, ◌∙◌, Bool, true, false, Option, Some, None, [], ◌∷◌}
 use Rattle.std.specs.Borrow.{Bor}
 use Rattle.pw_value.specs.declared.value.Value.{Value}
-use Rattle.pw_types.specs.TypedTrees.{Expression, Statement, Empty, Evaluate, Block, If, While, Do, For, Switch, Label, Goto, Break, Continue, Return}
+use Rattle.pw_types.specs.TypedTrees.{Expression, Statement, While, Do, For}
 use Rattle.pw_typed.specs.Views.{view_expr, view_stmt}
 use Rattle.pw_typed.specs.declared.tree.TExpr.{TExpr}
 use Rattle.pw_typed.specs.declared.tree.TStmt.{TStmt}
@@ -14,7 +14,7 @@ use Rattle.pw_cmean.specs.SourceRun.{calls}
 use Rattle.pw_interp_todo.specs.declared.flow.Entry as code
 use Rattle.pw_interp_todo.specs.declared.statements.Part.TheVariants as P
 use Rattle.pw_interp_todo.specs.Asking.{answered}
-use Rattle.pw_interp_todo.specs.Loops.{ahead_of, behind_of, body_of, loop_act, top_act, turn_or_leave, top_or_leave, body_behind}
+use Rattle.pw_interp_todo.specs.Loops.{ahead_of, body_of, loop_act, top_act, turn_or_leave, top_or_leave, body_behind}
 use Rattle.pw_interp_todo.specs.Operands.{tested}
 use Rattle.pw_interp_todo.specs.Parts.{back_act}
 use Rattle.pw_interp_todo.proofs.Firsts.{tested_first}
@@ -36,16 +36,7 @@ module _ (l : Statement) (e : Env) (n : ℕ) (s : State) where
       by (While t c body) is = let same : body ≡ b = cc is in ap (λ y. meaning y at cs e) same
       by (Do t body c) is = let same : body ≡ b = cc is in ap (λ y. meaning y at cs e) same
       by (For t first c third body) is = let same : body ≡ b = cc is in ap (λ y. meaning y at cs e) same
-      by (Empty t) is = cc is
-      by (Evaluate t a) is = cc is
-      by (Block t first count initialisers list) is = cc is
-      by (If t list otherwise) is = cc is
-      by (Switch t a cases default body) is = cc is
-      by (Label t labels body) is = cc is
-      by (Goto t k) is = cc is
-      by (Break t) is = cc is
-      by (Continue t) is = cc is
-      by (Return t a) is = cc is
+      by s is = cc is
 
   pub turned_in : (b : TStmt) (at : Entry) → body_in l ≡ Some (view_stmt b) → body_act l e at cs s ≡ (meaning (view_stmt b) at cs e >>= body_behind l e cs) s
   turned_in b at is = turn_is at ∙ ap (λ act. (act >>= body_behind l e cs) s) (body_there (view_stmt b) at is)
@@ -58,16 +49,7 @@ module _ (l : Statement) (e : Env) (n : ℕ) (s : State) where
       by (While t c body) is = cc is
       by (Do t body c) is = cc is
       by (For t first c third body) is = cc is
-      by (Empty t) is = refl
-      by (Evaluate t a) is = refl
-      by (Block t first count initialisers list) is = refl
-      by (If t list otherwise) is = refl
-      by (Switch t a cases default body) is = refl
-      by (Label t labels body) is = refl
-      by (Goto t k) is = refl
-      by (Break t) is = refl
-      by (Continue t) is = refl
-      by (Return t a) is = refl
+      by s is = refl
 
   -- from its top: what is tested there, and then the body
   pub loop_is : loop_act l e cs s ≡ (ahead_of l e cs >>= turn_or_leave l e cs) s

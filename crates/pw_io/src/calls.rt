@@ -11,7 +11,6 @@ pub(crate) struct Tally {
 }
 
 impl Tally {
-    /// No calls and no faults yet.
     pub(crate) fn new() -> Self
         ensures { result ≡ record { calls = 0; faults = 0 } }
     {
@@ -30,7 +29,6 @@ impl Tally {
         self.calls
     }
 
-    /// Counts a fault, up to the greatest count.
     pub(crate) fn count_fault(&mut self)
         ensures { self.new ≡ record self.old { faults = next_fault self.old.faults } }
     {

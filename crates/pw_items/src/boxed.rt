@@ -20,7 +20,7 @@ impl<T> Model for Boxed<T> {
 }
 
 impl<T> Boxed<T> {
-    /// A reference to the value in the box.
+    /// The value in place.
     pub fn get(&self) -> &T
         ensures { result.now ≡ self.now }
     {

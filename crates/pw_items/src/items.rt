@@ -23,7 +23,7 @@ impl<T> Model for Items<T> {
 }
 
 impl<T> Items<T> {
-    /// An empty list.
+    /// No items.
     pub fn new(alloc: Global) -> Items<T>
         ensures { result ≡ [] }
     {
@@ -47,21 +47,21 @@ impl<T> Items<T> {
         items
     }
 
-    /// The items as a slice.
+    /// The items in place.
     pub fn as_slice(&self) -> &[T]
         ensures { result.now ≡ self.now }
     {
         self.items.as_slice()
     }
 
-    /// How many items the list has.
+    /// How many there are.
     pub fn len(&self) -> usize
         ensures { result ≡ length self.now }
     {
         self.items.len()
     }
 
-    /// Whether the list has no items.
+    /// Whether there are none.
     pub fn is_empty(&self) -> bool
         ensures { IsTrue result ↔ (self.now ≡ []) }
     {

@@ -8,7 +8,7 @@ use Rattle.std.proofs.lemmas.Bool.{lt-ltb, le-ltb}
 use Rattle.std.proofs.lemmas.List.{map-append}
 use Rattle.std.proofs.lemmas.List.Elements.{filter-append}
 use Rattle.pw_tree.specs.FirstTokens.{first_of_expr}
-use Rattle.pw_tree.specs.Trees.{Word, Expr, Stmt, Alternative, Block, Stmts, Label, Decl}
+use Rattle.pw_tree.specs.Trees.{Word, Expr, Stmt, Alternative, Block, Stmts, Label}
 use Rattle.pw_tree.specs.Trees as S
 use Rattle.pw_types.specs.Labels.{labels_in, labels_among, labels_of_arms, labels_behind}
 use Rattle.pw_types.specs.TypedTrees.{Expression, Initialiser, Statement, LocalValue}
@@ -19,8 +19,9 @@ use Rattle.pw_check_walk.specs.Walks.{bind}
 use Rattle.pw_check_rules.specs.Kinds.{kind_in}
 use Rattle.pw_check_rules.specs.States.{State, Rule, BodyState, one_deeper, scoped}
 use Rattle.pw_check_rules.specs.Statements as R
-use Rattle.pw_check_rules.specs.Statements.{case_rule, new_label, inside_switch, default_rule, name_label_rule, label_rule, labels_rule, whole_rule, optional_rule, condition_rule, switch_rule, optional_condition, in_switch, in_loop, goto_rule, continue_rule, break_rule, return_rule, stmt_rule, alternative_rule, block_rule, stmts_rule, has_name, names_of_labels}
+use Rattle.pw_check_rules.specs.Statements.{case_rule, new_label, inside_switch, default_rule, name_label_rule, label_rule, labels_rule, whole_rule, optional_rule, condition_rule, switch_rule, optional_condition, in_switch, in_loop, return_rule, stmt_rule, alternative_rule, block_rule, stmts_rule, has_name, names_of_labels}
 use Rattle.pw_law_checked.specs.Lawful.{IsLawful}
+use Rattle.pw_law_checked.proofs.Bare.{Bare, Going, statement_of, bare_post}
 use Rattle.pw_law_checked.proofs.Walking.{Post, post_bind, post_weaken, post_both}
 use Rattle.pw_law_checked.proofs.Lists.{Longer}
 use Rattle.pw_law_checked.proofs.States.{Fine, FineValue, goes_on, Grows}
@@ -30,7 +31,7 @@ use Rattle.pw_law_checked.proofs.Changes.{deeper_lawful}
 use Rattle.pw_law_checked.proofs.Keeping.{around}
 use Rattle.pw_law_checked.proofs.Adding.{Declaring, decls_declare}
 use Rattle.pw_law_checked.proofs.Counting.{number_among}
-use Rattle.pw_law_checked.proofs.LabelLaws.{Steady, Labelled, Quietly, value_then, labels_labelled, stmt_labelled, alternative_labelled, stmts_labelled, asked_post, with_loop, IsLabelled, AreLabelled, IsLabelledBehind, label_labelled}
+use Rattle.pw_law_checked.proofs.LabelLaws.{Labelled, Quietly, value_then, labels_labelled, stmt_labelled, alternative_labelled, stmts_labelled, asked_post, with_loop, IsLabelled, AreLabelled, IsLabelledBehind, label_labelled}
 use Rattle.pw_law_source.specs.Accepting.{initialisers_in, initialisers_among, initialisers_of_arms, initialisers_behind}
 use Rattle.pw_law_accept.proofs.Suiting.{Suit, Suits, suit_later, suit_both, decls_suit}
 
@@ -217,17 +218,9 @@ unfolding return_rule bind
 return_formed s t None l = formed_none s.body
 return_formed s t (Some e) l = post_bind (whole_rule e s) _ (Quietly s) (IsFormedIn s.body []) (whole_quiet s e l) (λ r g met. formed_quiet s.body r.1.body g.1)
 
-goto_formed : (s : State) (t : ℕ) (w : Word) → Post (goto_rule t w s) (IsFormedIn s.body [])
-unfolding goto_rule bind
-goto_formed s t w = λ met. formed_none s.body
-
-continue_formed : (s : State) (t : ℕ) → Post (continue_rule t s) (IsFormedIn s.body [])
-unfolding continue_rule bind
-continue_formed s t = λ met. formed_none s.body
-
-break_formed : (s : State) (t : ℕ) → Post (break_rule t s) (IsFormedIn s.body [])
-unfolding break_rule bind
-break_formed s t = λ met. formed_none s.body
+bare_formed : (s : State) (b : Bare) → IsFormedIn s.body [] (statement_of b, s)
+bare_formed s (Going t n) = formed_none s.body
+bare_formed s b = formed_none s.body
 
 -- an arm before those behind it
 arms_formed : (a b c : BodyState) (n1 n2 : List (List ℕ)) (x : Statement) (rest : R.Behind) → b.names ≡ a.names → Longer b.locals c.locals → Formed a b n1 (labels_in x) (initialisers_in x)
@@ -248,7 +241,6 @@ mutual
   stmt_formed : (st : Stmt) (s : State) → IsLawful s → Post (stmt_rule st s) (IsFormedIn s.body (R.labels_in st))
   stmt_formed (S.Compound b) s l = scoped_formed s (block_rule b) (R.labels_in_block b) (block_formed b (one_deeper s) (deeper_lawful s l))
   stmt_formed (S.Expression e) s l = value_then s e _ (IsFormedIn s.body []) l (λ r m same. formed_quiet s.body r.1.body same)
-  stmt_formed (S.Empty t) s l = formed_none s.body
   stmt_formed (S.Labeled ls st) s l =
       post_bind _ _ (λ r. Labelled s.body (names_of_labels ls) r.0 [] r.1 × AreOrdered s.body (names_of_labels ls) r) (IsFormedIn s.body (names_of_labels ls ++ R.labels_in st))
       (post_both _ (λ r. Labelled s.body (names_of_labels ls) r.0 [] r.1) (AreOrdered s.body (names_of_labels ls)) (labels_labelled ls s l) (labels_ordered ls s l)) (λ r g.
@@ -283,10 +275,8 @@ mutual
       post_bind _ _ (Quietly y.1) (IsFormedIn s.body (R.labels_in st)) (optional_quiet y.1 c i.0) (λ q k.
       post_bind _ _ (IsFormedIn q.1.body (R.labels_in st)) (IsFormedIn s.body (R.labels_in st)) (in_loop_formed q.1 (stmt_rule st) (R.labels_in st) k.0 (λ v j. stmt_formed st v j)) (λ r g.
       formed_from s.body q.1.body r.1.body _ _ _ (k.1 ∙ (i.1 ∙ h.1)) g))))
-  stmt_formed (S.Goto t w) s l = goto_formed s t w
-  stmt_formed (S.Continue t) s l = continue_formed s t
-  stmt_formed (S.Break t) s l = break_formed s t
   stmt_formed (S.Return t e) s l = return_formed s t e l
+  stmt_formed st s l = bare_post (IsFormedIn s.body []) st refl s (bare_formed s)
 
   alternative_formed : (a : Alternative) (s : State) → IsLawful s → Post (alternative_rule a s) (IsFormedBehind s.body (R.labels_in_alternative a))
   alternative_formed S.NoElse s l = formed_none s.body

@@ -1,12 +1,13 @@
 -- Statements: by their parts.
-use Rattle.std.specs.Prelude.{ℕ, Option, None, Some}
-use Rattle.pw_tree.specs.Trees.{Word, Expr, Stmt, Alternative, Block, Stmts}
+use Rattle.std.specs.Prelude.{ℕ, Option, None, Some, refl}
+use Rattle.pw_tree.specs.Trees.{Expr, Stmt, Alternative, Block, Stmts}
 use Rattle.pw_tree.specs.Trees as S
 use Rattle.pw_types.specs.TypeTrees.{type_of}
 use Rattle.pw_types.specs.TypedTrees.{Expression, Statement, Statements}
 use Rattle.pw_check_walk.specs.Walks.{bind}
 use Rattle.pw_check_rules.specs.States.{State, Rule, scoped, one_deeper}
-use Rattle.pw_check_rules.specs.Statements.{Behind, whole_rule, optional_rule, condition_rule, optional_condition, switch_rule, goto_rule, continue_rule, break_rule, return_rule, in_switch, in_loop, stmt_rule, alternative_rule, block_rule, stmts_rule}
+use Rattle.pw_check_rules.specs.Statements.{Behind, whole_rule, optional_rule, condition_rule, optional_condition, switch_rule, return_rule, in_switch, in_loop, stmt_rule, alternative_rule, block_rule, stmts_rule}
+use Rattle.pw_law_checked.proofs.Bare.{Bare, Going, statement_of, bare_post}
 use Rattle.pw_law_checked.proofs.Walking.{Post, post_bind, after_any}
 use Rattle.pw_law_checked.specs.Designators.{NamesObjectsIfAny, StatementNamesObjects, StatementsNameObjects, ArmsNameObjects, ElseNamesObjects}
 use Rattle.pw_law_checked.proofs.DesignatorNodes.{Names, NamesIn, value_named, cast_names, promote_names}
@@ -60,17 +61,9 @@ in_switch_stated : (s : State) (e : Expression) (body : Rule Statement) → ((t 
 unfolding in_switch bind
 in_switch_stated s e body h = post_bind (body _) _ IsStated (λ r. StatementNamesObjects r.0.0) (h _) (λ r k. k)
 
-goto_stated : (t : ℕ) (w : Word) (s : State) → Post (goto_rule t w s) IsStated
-unfolding goto_rule bind
-goto_stated t w s = λ met. tt
-
-continue_stated : (t : ℕ) (s : State) → Post (continue_rule t s) IsStated
-unfolding continue_rule bind
-continue_stated t s = λ met. tt
-
-break_stated : (t : ℕ) (s : State) → Post (break_rule t s) IsStated
-unfolding break_rule bind
-break_stated t s = λ met. tt
+bare_stated : (b : Bare) → StatementNamesObjects (statement_of b)
+bare_stated (Going t n) = tt
+bare_stated b = tt
 
 return_stated : (t : ℕ) (e : Option Expr) (s : State) → Post (return_rule t e s) IsStated
 unfolding return_rule bind
@@ -85,7 +78,6 @@ mutual
   stmt_stated : (st : Stmt) (s : State) → Post (stmt_rule st s) IsStated
   stmt_stated (S.Compound b) s = scoped_stated s (block_rule b) (λ t. block_stated b t)
   stmt_stated (S.Expression e) s = post_bind _ _ Names IsStated (expr_named e s) (λ a g. post_bind _ _ NamesIn IsStated (value_named a.0 a.1 g) (λ x k. k))
-  stmt_stated (S.Empty t) s = tt
   stmt_stated (S.Labeled ls st) s = after_any _ _ IsStated (λ ns. post_bind _ _ IsStated IsStated (stmt_stated st ns.1) (λ r k. k))
   stmt_stated (S.If t c st a) s =
       post_bind _ _ NamesIn IsStated (condition_named t c s) (λ x g.
@@ -105,10 +97,8 @@ mutual
       post_bind _ _ IfAny IsStated (optional_condition_named t b x.1) (λ y h.
       post_bind _ _ IfAny IsStated (optional_named c y.1) (λ z i.
       post_bind _ _ IsStated IsStated (in_loop_stated z.1 (stmt_rule st) (λ t. stmt_stated st t)) (λ r k. (g, h, i, k)))))
-  stmt_stated (S.Goto t w) s = goto_stated t w s
-  stmt_stated (S.Continue t) s = continue_stated t s
-  stmt_stated (S.Break t) s = break_stated t s
   stmt_stated (S.Return t e) s = return_stated t e s
+  stmt_stated st s = bare_post IsStated st refl s bare_stated
 
   alternative_stated : (a : Alternative) (s : State) → Post (alternative_rule a s) IsStatedBehind
   alternative_stated S.NoElse s = (tt, tt)

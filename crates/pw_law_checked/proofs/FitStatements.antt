@@ -26,8 +26,9 @@ use Rattle.pw_check_rules.specs.Modules.{external_rule, externals_rule, module_r
 use Rattle.pw_check_rules.specs.Operators.{value_rule}
 use Rattle.pw_check_rules.specs.Phrases.{expr_rule}
 use Rattle.pw_check_rules.specs.States.{State, Rule, BodyState, scoped, one_deeper, leave_scope, start, Entity, LinkedName, HiddenObject, linked_at}
-use Rattle.pw_check_rules.specs.Statements.{new_label, case_rule, inside_switch, default_rule, name_label_rule, label_rule, labels_rule, whole_rule, optional_rule, condition_rule, optional_condition, switch_rule, in_switch, in_loop, goto_rule, continue_rule, break_rule, return_rule, stmt_rule, alternative_rule, block_rule, stmts_rule, labels_in_block}
+use Rattle.pw_check_rules.specs.Statements.{new_label, case_rule, inside_switch, default_rule, name_label_rule, label_rule, labels_rule, whole_rule, optional_rule, condition_rule, optional_condition, switch_rule, in_switch, in_loop, return_rule, stmt_rule, alternative_rule, block_rule, stmts_rule, labels_in_block}
 use Rattle.pw_law_checked.specs.Lawful.{IsLawful}
+use Rattle.pw_law_checked.proofs.Bare.{bare_post}
 use Rattle.pw_law_checked.proofs.Walking.{Post, post_end, post_bind, post_weaken, post_both}
 use Rattle.pw_law_checked.proofs.Lists.{get_more, never_some}
 use Rattle.pw_law_checked.proofs.Types.{lawful_later, extends_trans}
@@ -109,18 +110,6 @@ unfolding labels_rule
 labels_kept env [] s w h = h
 labels_kept env (l ∷ rest) s w h = then_kept _ _ (label_kept env l s w.0 h) (λ r k. then_kept _ _ (labels_kept (after_label env l) rest r.1 w.1 k) (λ u j. j))
 
-goto_kept : (t : ℕ) (w : Word) (s : State) → IsKept s → Post (goto_rule t w s) Kept
-unfolding goto_rule bind
-goto_kept t w s h = λ met. h
-
-continue_kept : (t : ℕ) (s : State) → IsKept s → Post (continue_rule t s) Kept
-unfolding continue_rule bind
-continue_kept t s h = λ met. h
-
-break_kept : (t : ℕ) (s : State) → IsKept s → Post (break_rule t s) Kept
-unfolding break_rule bind
-break_kept t s h = λ met. h
-
 return_kept : (env : Env) (t : ℕ) (o : Option Expr) (s : State) → WellFormedOptional env o → IsKept s → Post (return_rule t o s) Kept
 unfolding return_rule bind
 return_kept env t None s w h = h
@@ -146,7 +135,6 @@ mutual
   stmt_kept : (env : Env) (st : Stmt) (s : State) → WellFormedStmt env st → IsKept s → Post (stmt_rule st s) Kept
   stmt_kept env (S.Compound b) s w h = scoped_kept (block_rule b) s h (λ t k. block_kept env b t w k)
   stmt_kept env (S.Expression e) s w h = then_kept _ _ (expr_kept env e s w h) (λ r k. then_kept _ _ (kept_still r.1 _ k (value_still r.0 r.1)) (λ u j. j))
-  stmt_kept env (S.Empty t) s w h = h
   stmt_kept env (S.Labeled ls st) s w h = then_kept _ _ (labels_kept env ls s w.1 h) (λ r k. then_kept _ _ (stmt_kept (after_labels env ls) st r.1 w.3 k) (λ u j. j))
   stmt_kept env (S.If t c st a) s w h =
       then_kept _ _ (condition_kept env t c s w.0 h) (λ r k.
@@ -164,10 +152,8 @@ mutual
       then_kept _ _ (optional_condition_kept (after_optional env a) t b r.1 w.1 k) (λ u j.
       then_kept _ _ (optional_kept (after_optional (after_optional env a) b) c u.1 w.2 j) (λ v i.
       then_kept _ _ (in_loop_kept (stmt_rule st) v.1 i (λ x y. stmt_kept (after_optional (after_optional (after_optional env a) b) c) st x w.3 y)) (λ x y. y))))
-  stmt_kept env (S.Goto t x) s w h = goto_kept t x s h
-  stmt_kept env (S.Continue t) s w h = continue_kept t s h
-  stmt_kept env (S.Break t) s w h = break_kept t s h
   stmt_kept env (S.Return t e) s w h = return_kept env t e s w h
+  stmt_kept env st s w h = bare_post Kept st refl s (λ b. h)
 
   alternative_kept : (env : Env) (a : Alternative) (s : State) → WellFormedAlternative env a → IsKept s → Post (alternative_rule a s) Kept
   alternative_kept env S.NoElse s w h = h

@@ -21,7 +21,8 @@ use Rattle.pw_check_rules.specs.Leaves.{string_point}
 use Rattle.pw_check_rules.specs.Limits.{Spot}
 use Rattle.pw_check_rules.specs.SpecifierLists.{Specified}
 use Rattle.pw_check_rules.specs.States.{State, Rule, scoped, one_deeper, records_in, next_hidden, add_hidden}
-use Rattle.pw_check_rules.specs.Statements.{Behind, whole_rule, goto_rule, continue_rule, break_rule, return_rule, in_switch, in_loop, stmt_rule, alternative_rule, block_rule, stmts_rule}
+use Rattle.pw_check_rules.specs.Statements.{Behind, whole_rule, return_rule, in_switch, in_loop, stmt_rule, alternative_rule, block_rule, stmts_rule}
+use Rattle.pw_law_checked.proofs.Bare.{Bare, Going, statement_of, bare_post}
 use Rattle.pw_law_checked.proofs.Walking.{Post, post_bind, after_any}
 
 -- ---- lists of initialisers
@@ -250,17 +251,9 @@ in_switch_post : (s : State) (e : Expression) (body : Rule Statement) → ((t : 
 unfolding in_switch bind
 in_switch_post s e body h = post_bind (body _) _ (λ r. IsParted r.0) (λ r. IsParted r.0.0) (h _) (λ r k. k)
 
-after_goto : (t : ℕ) (w : Word) (s : State) → Post (goto_rule t w s) (λ r. IsParted r.0)
-unfolding goto_rule bind
-after_goto t w s = λ met. refl
-
-after_continue : (t : ℕ) (s : State) → Post (continue_rule t s) (λ r. IsParted r.0)
-unfolding continue_rule bind
-after_continue t s = λ met. refl
-
-after_break : (t : ℕ) (s : State) → Post (break_rule t s) (λ r. IsParted r.0)
-unfolding break_rule bind
-after_break t s = λ met. refl
+bare_parted : (b : Bare) → IsParted (statement_of b)
+bare_parted (Going t n) = refl
+bare_parted b = refl
 
 after_return : (t : ℕ) (e : Option Expr) (s : State) → Post (return_rule t e s) (λ r. IsParted r.0)
 unfolding return_rule bind
@@ -276,7 +269,6 @@ mutual
   stmt_parts : (env : Env) (st : Stmt) (s : State) → WellFormedStmt env st → Post (stmt_rule st s) (λ r. IsParted r.0)
   stmt_parts env (S.Compound b) s h = scoped_post s (block_rule b) IsParted (λ t. block_parts env b t h)
   stmt_parts env (S.Expression e) s h = after_any _ _ (λ r. IsParted r.0) (λ a. after_any _ _ (λ r. IsParted r.0) (λ x. refl))
-  stmt_parts env (S.Empty t) s h = refl
   stmt_parts env (S.Labeled ls st) s h =
       after_any _ _ (λ r. IsParted r.0) (λ ns.
       post_bind _ _ (λ r. IsParted r.0) (λ r. IsParted r.0) (stmt_parts (after_labels env ls) st ns.1 h.3) (λ r k. k))
@@ -300,10 +292,8 @@ mutual
       after_any _ _ (λ r. IsParted r.0) (λ z.
       post_bind _ _ (λ r. IsParted r.0) (λ r. IsParted r.0)
       (in_loop_post z.1 (stmt_rule st) (λ t. stmt_parts (after_optional (after_optional (after_optional env a) b) c) st t h.3)) (λ r k. k))))
-  stmt_parts env (S.Goto t w) s h = after_goto t w s
-  stmt_parts env (S.Continue t) s h = after_continue t s
-  stmt_parts env (S.Break t) s h = after_break t s
   stmt_parts env (S.Return t e) s h = after_return t e s
+  stmt_parts env st s h = bare_post (λ r. IsParted r.0) st refl s bare_parted
 
   alternative_parts : (env : Env) (a : Alternative) (s : State) → WellFormedAlternative env a → Post (alternative_rule a s) (λ r. AreBehindParted r.0)
   alternative_parts env S.NoElse s h = (refl, refl)

@@ -26,8 +26,9 @@ use Rattle.pw_check_rules.specs.Kinds.{kind_in}
 use Rattle.pw_check_rules.specs.Leaves.{is_nil}
 use Rattle.pw_check_rules.specs.States.{State, Rule, BodyState, SwitchState, one_deeper, scoped}
 use Rattle.pw_check_rules.specs.Statements as R
-use Rattle.pw_check_rules.specs.Statements.{case_rule, new_label, inside_switch, default_rule, name_label_rule, label_rule, labels_rule, whole_rule, optional_rule, condition_rule, optional_condition, switch_rule, in_switch, in_loop, goto_rule, continue_rule, break_rule, return_rule, stmt_rule, alternative_rule, block_rule, stmts_rule, first_switch, change_switches, switch_kind, has_case, has_default, switch_of, tail_of, has_name, names_of_labels}
+use Rattle.pw_check_rules.specs.Statements.{case_rule, new_label, inside_switch, default_rule, name_label_rule, label_rule, labels_rule, whole_rule, optional_rule, condition_rule, optional_condition, switch_rule, in_switch, in_loop, return_rule, stmt_rule, alternative_rule, block_rule, stmts_rule, first_switch, change_switches, switch_kind, has_case, has_default, switch_of, tail_of, names_of_labels}
 use Rattle.pw_law_checked.specs.Lawful.{IsLawful}
+use Rattle.pw_law_checked.proofs.Bare.{Bare, Going, statement_of, bare_post}
 use Rattle.pw_law_checked.proofs.Walking.{Post, post_bind, post_weaken, truth}
 use Rattle.pw_law_checked.proofs.Lists.{Longer}
 use Rattle.pw_law_checked.proofs.Types.{no, not_true}
@@ -566,17 +567,9 @@ pub asked_post : {A B : Type 0} (s : State) (a : A) (next : A × State → Walk 
 unfolding bind
 asked_post s a next P h = h
 
-goto_labelled : (s : State) (t : ℕ) (w : Word) → IsLawful s → Post (goto_rule t w s) (λ r. Labelled s.body [] (labels_in r.0) (cases_in r.0) r.1)
-unfolding goto_rule bind
-goto_labelled s t w l = λ met. labelled_quiet s.body s l refl
-
-continue_labelled : (s : State) (t : ℕ) → IsLawful s → Post (continue_rule t s) (λ r. Labelled s.body [] (labels_in r.0) (cases_in r.0) r.1)
-unfolding continue_rule bind
-continue_labelled s t l = λ met. labelled_quiet s.body s l refl
-
-break_labelled : (s : State) (t : ℕ) → IsLawful s → Post (break_rule t s) (λ r. Labelled s.body [] (labels_in r.0) (cases_in r.0) r.1)
-unfolding break_rule bind
-break_labelled s t l = λ met. labelled_quiet s.body s l refl
+bare_labelled : (s : State) → IsLawful s → (b : Bare) → Labelled s.body [] (labels_in (statement_of b)) (cases_in (statement_of b)) s
+bare_labelled s l (Going t n) = labelled_quiet s.body s l refl
+bare_labelled s l b = labelled_quiet s.body s l refl
 
 -- an arm before those behind it
 arms_labelled : (a : BodyState) (r u : State) (n1 n2 : List (List ℕ)) (body : Statement) (rest : R.Behind) → Labelled a n1 (labels_in body) (cases_in body) r
@@ -604,7 +597,6 @@ mutual
   pub stmt_labelled : (st : Stmt) (s : State) → IsLawful s → Post (stmt_rule st s) (IsLabelled s.body (R.labels_in st))
   stmt_labelled (S.Compound b) s l = scoped_labelled s (block_rule b) (R.labels_in_block b) (block_labelled b (one_deeper s) (deeper_lawful s l))
   stmt_labelled (S.Expression e) s l = value_then s e _ (IsLabelled s.body []) l (λ r m same. labelled_quiet s.body r.1 m same)
-  stmt_labelled (S.Empty t) s l = labelled_quiet s.body s l refl
   stmt_labelled (S.Labeled ls st) s l =
       post_bind _ _ (λ r. Labelled s.body (names_of_labels ls) r.0 [] r.1) (IsLabelled s.body (names_of_labels ls ++ R.labels_in st)) (labels_labelled ls s l) (λ r g.
       post_bind _ _ (IsLabelled r.1.body (R.labels_in st)) (IsLabelled s.body (names_of_labels ls ++ R.labels_in st)) (stmt_labelled st r.1 g.0) (λ u f.
@@ -632,12 +624,10 @@ mutual
       post_bind _ _ (Quietly y.1) (IsLabelled s.body (R.labels_in st)) (optional_quiet y.1 c i.0) (λ q k.
       post_bind _ _ (IsLabelled q.1.body (R.labels_in st)) (IsLabelled s.body (R.labels_in st)) (loop_labelled q.1 (stmt_rule st) (R.labels_in st) k.0 (λ v j. stmt_labelled st v j)) (λ r g.
       labelled_from s.body q.1.body r.1 _ _ _ (k.1 ∙ (i.1 ∙ h.1)) g))))
-  stmt_labelled (S.Goto t w) s l = goto_labelled s t w l
-  stmt_labelled (S.Continue t) s l = continue_labelled s t l
-  stmt_labelled (S.Break t) s l = break_labelled s t l
   stmt_labelled (S.Return t e) s l =
       post_weaken _ (λ r. Quietly s r × (labels_in r.0 ≡ []) × (cases_in r.0 ≡ [])) (IsLabelled s.body []) (return_quiet s t e l)
       (λ r g. subst (λ n. Labelled s.body [] n (cases_in r.0) r.1) (sym g.1) (subst (λ n. Labelled s.body [] [] n r.1) (sym g.2) (labelled_quiet s.body r.1 g.0.0 g.0.1)))
+  stmt_labelled st s l = bare_post (IsLabelled s.body []) st refl s (bare_labelled s l)
 
   pub alternative_labelled : (a : Alternative) (s : State) → IsLawful s → Post (alternative_rule a s) (IsLabelledBehind s.body (R.labels_in_alternative a))
   alternative_labelled S.NoElse s l = labelled_quiet s.body s l refl

@@ -1,4 +1,5 @@
 pub mod Walking
+pub mod Bare
 pub mod Lists
 pub mod Types
 pub mod Composite

@@ -30,7 +30,8 @@ use Rattle.pw_check_rules.specs.declared.names.Tag.{Tag}
 use Rattle.pw_check_rules.specs.declared.names.Tag.TheVariants as G
 use Rattle.pw_check_rules.specs.Phrases.{declarator_rule, core_rule, expr_rule}
 use Rattle.pw_check_rules.specs.States.{State, Rule, LinkedName, put_at, put_linked, add_linked, add_slot, linked_at, scoped, one_deeper, tag_here}
-use Rattle.pw_check_rules.specs.Statements.{new_label, case_rule, inside_switch, default_rule, name_label_rule, label_rule, labels_rule, whole_rule, optional_rule, condition_rule, optional_condition, switch_rule, in_switch, in_loop, goto_rule, continue_rule, break_rule, return_rule, stmt_rule, alternative_rule, block_rule, stmts_rule}
+use Rattle.pw_check_rules.specs.Statements.{new_label, case_rule, inside_switch, default_rule, name_label_rule, label_rule, labels_rule, whole_rule, optional_rule, condition_rule, optional_condition, switch_rule, in_switch, in_loop, return_rule, stmt_rule, alternative_rule, block_rule, stmts_rule}
+use Rattle.pw_law_checked.proofs.Bare.{bare_post}
 use Rattle.pw_law_checked.proofs.Walking.{Post, post_bind, post_weaken, post_both, after_any}
 use Rattle.pw_law_checked.proofs.Lists.{some_same, never_some}
 use Rattle.pw_law_checked.proofs.Keeping.{here_linked, named_before}
@@ -278,18 +279,6 @@ unfolding labels_rule
 labels_same [] s = refl
 labels_same (l ∷ rest) s = then_same s _ _ (label_same l s) (λ r. then_same r.1 _ _ (labels_same rest r.1) (λ u. refl))
 
-goto_same : (t : ℕ) (w : Word) (s : State) → Post (goto_rule t w s) (Same s)
-unfolding goto_rule bind
-goto_same t w s = λ met. refl
-
-continue_same : (t : ℕ) (s : State) → Post (continue_rule t s) (Same s)
-unfolding continue_rule bind
-continue_same t s = λ met. refl
-
-break_same : (t : ℕ) (s : State) → Post (break_rule t s) (Same s)
-unfolding break_rule bind
-break_same t s = λ met. refl
-
 return_same : (t : ℕ) (e : Option Expr) (s : State) → Post (return_rule t e s) (Same s)
 unfolding return_rule bind
 return_same t None s = refl
@@ -313,7 +302,6 @@ mutual
   stmt_named : (st : Stmt) (s : State) → WordsSpellStmt st → AreNamed s.types.linked → Post (stmt_rule st s) Named
   stmt_named (S.Compound b) s h all = scoped_named (block_rule b) s all (λ t k. block_named b t h k)
   stmt_named (S.Expression e) s h all = named_so s _ all (whole_then e s)
-  stmt_named (S.Empty t) s h all = all
   stmt_named (S.Labeled ls st) s h all = named_then s _ _ all (labels_same ls s) (λ r k. both_named _ _ (stmt_named st r.1 h.1 k) (λ u j. j))
   stmt_named (S.If t c st a) s h all =
       named_then s _ _ all (condition_same t c s) (λ r k.
@@ -331,10 +319,8 @@ mutual
       named_then r.1 _ _ k (optional_condition_same t b r.1) (λ u j.
       named_then u.1 _ _ j (optional_same c u.1) (λ v i.
       both_named _ _ (in_loop_named (stmt_rule st) v.1 i (λ x y. stmt_named st x h.3 y)) (λ x y. y))))
-  stmt_named (S.Goto t w) s h all = named_so s (goto_rule t w s) all (goto_same t w s)
-  stmt_named (S.Continue t) s h all = named_so s (continue_rule t s) all (continue_same t s)
-  stmt_named (S.Break t) s h all = named_so s (break_rule t s) all (break_same t s)
   stmt_named (S.Return t e) s h all = named_so s (return_rule t e s) all (return_same t e s)
+  stmt_named st s h all = bare_post Named st refl s (λ b. all)
 
   alternative_named : (a : Alternative) (s : State) → WordsSpellAlternative a → AreNamed s.types.linked → Post (alternative_rule a s) Named
   alternative_named S.NoElse s h all = all

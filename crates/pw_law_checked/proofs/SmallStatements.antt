@@ -1,7 +1,7 @@
 -- Statements: their expressions keep the limit on sizes, and their calls that on arguments (ISO C90 5.2.4.1).
 use Rattle.std.specs.Prelude.{ℕ, ◌≡◌, nat_lt, Option, None, Some, List, [], ◌∷◌, refl}
 use Rattle.std.proofs.Common.{sym, subst}
-use Rattle.pw_tree.specs.Trees.{Word, Expr, Decl, Stmt, Alternative, Block, Stmts, Label}
+use Rattle.pw_tree.specs.Trees.{Expr, Decl, Stmt, Alternative, Block, Stmts, Label}
 use Rattle.pw_tree.specs.Trees as S
 use Rattle.pw_tree.specs.Spelling.{spell_expr, spell_optional, spell_decls, spell_label, spell_labels, spell_stmt, spell_alternative, spell_block, spell_stmts}
 use Rattle.pw_tree.specs.Symbols.{Symbol}
@@ -12,7 +12,8 @@ use Rattle.pw_check_walk.specs.Walks.{Walk, bind}
 use Rattle.pw_check_rules.specs.Declarations.{decls_rule}
 use Rattle.pw_check_rules.specs.Operators.{value_rule}
 use Rattle.pw_check_rules.specs.States.{State, Rule, BodyState, SwitchState, scoped, one_deeper, leave_scope}
-use Rattle.pw_check_rules.specs.Statements.{Behind, new_label, case_rule, inside_switch, default_rule, name_label_rule, label_rule, labels_rule, whole_rule, optional_rule, condition_rule, optional_condition, switch_rule, in_switch, in_loop, goto_rule, continue_rule, break_rule, return_rule, stmt_rule, alternative_rule, block_rule, stmts_rule}
+use Rattle.pw_check_rules.specs.Statements.{Behind, new_label, case_rule, inside_switch, default_rule, name_label_rule, label_rule, labels_rule, whole_rule, optional_rule, condition_rule, optional_condition, switch_rule, in_switch, in_loop, return_rule, stmt_rule, alternative_rule, block_rule, stmts_rule}
+use Rattle.pw_law_checked.proofs.Bare.{Bare, Going, statement_of, bare_post}
 use Rattle.pw_law_checked.proofs.Walking.{Post, post_bind, post_weaken, post_both, truth}
 use Rattle.pw_law_checked.proofs.Lists.{get_filter}
 use Rattle.pw_law_checked.proofs.Types.{extends_same}
@@ -137,17 +138,9 @@ unfolding labels_rule
 labels_goes [] z sh s h = ((h, onward_same s), tt)
 labels_goes (l ∷ rest) z sh s h = then_goes s _ _ Nothing Nothing (label_goes l _ sh s h) (λ r k o v. then_goes r.1 _ _ Nothing Nothing (labels_goes rest z (label_rest l _ sh) r.1 k) (λ u j p w. ((j, onward_same u.1), tt)))
 
-goto_goes : (t : ℕ) (w : Word) (s : State) → IsSet s → Post (goto_rule t w s) (Goes s SmallStatement)
-unfolding goto_rule bind
-goto_goes t w s h = λ met. ((h, onward_same s), λ r c. tt)
-
-continue_goes : (t : ℕ) (s : State) → IsSet s → Post (continue_rule t s) (Goes s SmallStatement)
-unfolding continue_rule bind
-continue_goes t s h = λ met. ((h, onward_same s), λ r c. tt)
-
-break_goes : (t : ℕ) (s : State) → IsSet s → Post (break_rule t s) (Goes s SmallStatement)
-unfolding break_rule bind
-break_goes t s h = λ met. ((h, onward_same s), λ r c. tt)
+bare_small : (s : State) (b : Bare) → SmallStatement s (statement_of b)
+bare_small s (Going t n) = λ r c. tt
+bare_small s b = λ r c. tt
 
 return_goes : (t : ℕ) (o : Option Expr) (z : List Symbol) (sh : AreShort (spell_optional o z)) (s : State) → IsSet s → Post (return_rule t o s) (Goes s SmallStatement)
 unfolding return_rule bind
@@ -197,7 +190,6 @@ mutual
   stmt_small (S.Expression e) z sh s h =
       from_valued e s _ (Goes s SmallStatement) h.0.0 (expr_made e _ sh s h.0) (λ r m g v.
       let o : Onward s r.1 = onward_grows g in ((set_grows {s = s} {t = r.1} m g h, o), λ x c. (v x c).small))
-  stmt_small (S.Empty t) z sh s h = ((h, onward_same s), λ r c. tt)
   stmt_small (S.Labeled ls st) z sh s h = then_goes s _ _ Nothing SmallStatement (labels_goes ls _ sh s h) (λ r k o v. then_goes r.1 _ _ SmallStatement SmallStatement (stmt_small st z (labels_rest ls _ sh) r.1 k) (λ u j p w. ((j, onward_same u.1), w)))
   stmt_small (S.If t c st a) z sh s h =
       then_goes s _ _ SmallValue SmallStatement (condition_goes t c _ sh.1.1 s h) (λ q i o v.
@@ -227,10 +219,8 @@ mutual
             let d2 = reaches_on {s = x2.1} {t = x3.1} o3 d3 in
             (v1 y (reaches_on {s = x1.1} {t = x2.1} o2 d2), v2 y d2, v3 y d3, v4 y d),
       )))))
-  stmt_small (S.Goto t w) z sh s h = goto_goes t w s h
-  stmt_small (S.Continue t) z sh s h = continue_goes t s h
-  stmt_small (S.Break t) z sh s h = break_goes t s h
   stmt_small (S.Return t e) z sh s h = return_goes t e _ sh.1 s h
+  stmt_small st z sh s h = bare_post (Goes s SmallStatement) st refl s (λ b. ((h, onward_same s), bare_small s b))
 
   alternative_small : (a : Alternative) (z : List Symbol) → AreShort (spell_alternative a z) → (s : State) → IsSet s → Post (alternative_rule a s) (Goes s SmallBehind)
   alternative_small S.NoElse z sh s h = ((h, onward_same s), λ r c. (tt, tt))

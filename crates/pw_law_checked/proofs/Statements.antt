@@ -1,12 +1,12 @@
 -- Statements leave a lawful state.
 use Rattle.std.specs.Prelude.{ℕ, Option, None, Some, List, [], ◌∷◌, refl}
-use Rattle.pw_tree.specs.Trees.{Word, Expr, Stmt, Alternative, Block, Stmts, Label, Decl}
+use Rattle.pw_tree.specs.Trees.{Word, Expr, Stmt, Alternative, Block, Stmts, Label}
 use Rattle.pw_tree.specs.Trees as S
 use Rattle.pw_tree.specs.FirstTokens.{first_of_expr}
 use Rattle.pw_types.specs.TypedTrees.{Expression, Statement}
 use Rattle.pw_check_walk.specs.Walks.{bind}
 use Rattle.pw_check_rules.specs.States.{State, Rule, one_deeper}
-use Rattle.pw_check_rules.specs.Statements.{new_label, case_rule, inside_switch, default_rule, name_label_rule, label_rule, labels_rule, whole_rule, optional_rule, condition_rule, optional_condition, switch_rule, in_switch, in_loop, goto_rule, continue_rule, break_rule, return_rule, stmt_rule, alternative_rule, block_rule, stmts_rule}
+use Rattle.pw_check_rules.specs.Statements.{new_label, case_rule, inside_switch, default_rule, name_label_rule, label_rule, labels_rule, whole_rule, optional_rule, condition_rule, optional_condition, switch_rule, in_switch, in_loop, return_rule, stmt_rule, alternative_rule, block_rule, stmts_rule}
 use Rattle.pw_law_checked.specs.Lawful.{IsLawful}
 use Rattle.pw_law_checked.proofs.States.{Fine, FineValue}
 use Rattle.pw_law_checked.proofs.Changes.{deeper_lawful}
@@ -15,7 +15,8 @@ use Rattle.pw_law_checked.proofs.Phrases.{expr_post}
 use Rattle.pw_law_checked.proofs.Initialisers.{value_goes}
 use Rattle.pw_law_checked.proofs.Declarations.{decls_goes}
 use Rattle.pw_law_checked.proofs.Declaring.{body_kept}
-use Rattle.pw_law_checked.proofs.Keeping.{after_same, Goes, goes_by, of_runs, from_kept, asked, Anything, scoped_goes}
+use Rattle.pw_law_checked.proofs.Bare.{bare_post}
+use Rattle.pw_law_checked.proofs.Keeping.{After, after_same, Goes, goes_by, of_runs, from_kept, asked, Anything, scoped_goes}
 
 -- ---- labels
 
@@ -85,18 +86,6 @@ in_loop_goes s body l h =
     let a = body_kept s _ l refl in
     from_kept _ Anything a (goes_by (body _) _ Anything Anything (h _ a.0) (λ r m x f. let b = body_kept r.1 _ m refl in (b.0, b.1, tt)))
 
-goto_goes : (s : State) (t : ℕ) (w : Word) → IsLawful s → Goes s (goto_rule t w s) Anything
-unfolding goto_rule bind
-goto_goes s t w l = λ met. (l, after_same s, tt)
-
-continue_goes : (s : State) (t : ℕ) → IsLawful s → Goes s (continue_rule t s) Anything
-unfolding continue_rule bind
-continue_goes s t l = λ met. (l, after_same s, tt)
-
-break_goes : (s : State) (t : ℕ) → IsLawful s → Goes s (break_rule t s) Anything
-unfolding break_rule bind
-break_goes s t l = λ met. (l, after_same s, tt)
-
 return_goes : (s : State) (t : ℕ) (e : Option Expr) → IsLawful s → Goes s (return_rule t e s) Anything
 unfolding return_rule bind
 return_goes s t None l = (l, after_same s, tt)
@@ -110,7 +99,6 @@ mutual
   pub stmt_goes : (st : Stmt) (s : State) → IsLawful s → Goes s (stmt_rule st s) Anything
   stmt_goes (S.Compound b) s l = scoped_goes s (block_rule b) l (block_goes b (one_deeper s) (deeper_lawful s l))
   stmt_goes (S.Expression e) s l = value_goes s e _ Anything l (λ r m x f. (m, after_same r.1, tt))
-  stmt_goes (S.Empty t) s l = (l, after_same s, tt)
   stmt_goes (S.Labeled ls st) s l =
       goes_by _ _ Anything Anything (labels_goes ls s l) (λ r m x h.
       goes_by _ _ Anything Anything (stmt_goes st r.1 m) (λ u n y k. (n, after_same u.1, tt)))
@@ -132,10 +120,8 @@ mutual
       goes_by _ _ Anything Anything (optional_condition_goes r.1 t b m) (λ u n y k.
       goes_by _ _ Anything Anything (optional_goes u.1 c n) (λ v i z j.
       goes_by _ _ Anything Anything (in_loop_goes v.1 (stmt_rule st) i (λ q p. stmt_goes st q p)) (λ o p q w. (p, after_same o.1, tt)))))
-  stmt_goes (S.Goto t w) s l = goto_goes s t w l
-  stmt_goes (S.Continue t) s l = continue_goes s t l
-  stmt_goes (S.Break t) s l = break_goes s t l
   stmt_goes (S.Return t e) s l = return_goes s t e l
+  stmt_goes st s l = bare_post (λ r. IsLawful r.1 × After s r.1 × Anything r.1 r.0) st refl s (λ b. (l, after_same s, tt))
 
   pub alternative_goes : (a : Alternative) (s : State) → IsLawful s → Goes s (alternative_rule a s) Anything
   alternative_goes S.NoElse s l = (l, after_same s, tt)

@@ -1,7 +1,6 @@
 -- Where lines were put out, or a walk was lost, the run was looked at at its call.
 use Rattle.std.specs.Prelude.{ℕ, ◌≡◌, List, [], Some, Ok, Err, Result}
 use Rattle.std.proofs.Common.{subst, sym, ap, refl, ◌∙◌}
-use Rattle.pw_value.specs.Objects.{Object as Thing}
 use Rattle.pw_io.specs.Files.{Files}
 use Rattle.pw_object.specs.declared.object.Object.{Object}
 use Rattle.pw_image.specs.declared.image.Image.{Image}
@@ -32,7 +31,7 @@ use Rattle.pw_run_agreement.specs.Agreement.{IsDefined}
 use Rattle.pw_run_languages.specs.LinkingLaws.{frame_in}
 use Rattle.pw_law_source.specs.Source.{source_runs}
 use Rattle.pw_law_layers.specs.Whole.{image_of}
-use Rattle.pw_law_truth.specs.Truth.{ComesToCall, IsPause, ShowsTruth, TellTrue}
+use Rattle.pw_law_truth.specs.Truth.{ShowsTruth}
 use Rattle.pw_law_debugger.specs.Debugger.{LosesUndefined, TellsTruth}
 
 -- the answers to a look at a call
@@ -113,16 +112,10 @@ module _ (shown : Files) (opts : RunOpts) (k : ℕ) (input : List ℕ) (effect :
     truth is comes build over =
         let l = looked Done tt is comes build over in
         record {
-          bytes = l.bytes;
-          builds = l.builds;
-          contents = l.contents;
-          file = l.file;
-          objects = l.parts.objects;
-          comes = subst (λ (v : Image). IsDefined (source_runs p (frame_in v) opts.build.stack input) → ComesToCall p input k) (sym l.value)
-              (λ defined. (law (all_fresh l.parts) l.frames l.full l.are defined).comes effect.output (Some l.showed.0) l.showed.1);
-          tells = subst (λ (v : Image). IsDefined (source_runs p (frame_in v) opts.build.stack input) → (f : List ℕ) (things : List Thing) →
-              IsPause p input k f things → TellTrue p v l.parts.objects k effect.output f things) (sym l.value)
-              (λ defined f things pause. (law (all_fresh l.parts) l.frames l.full l.are defined).lines effect.output (Some l.showed.0) f things l.showed.1 pause);
+          parts = all_fresh l.parts;
+          builds = l.full;
+          comes = λ defined. (law (all_fresh l.parts) l.frames l.full l.are defined).comes effect.output (Some l.showed.0) l.showed.1;
+          tells = λ defined f things pause. (law (all_fresh l.parts) l.frames l.full l.are defined).lines effect.output (Some l.showed.0) f things l.showed.1 pause;
         }
 
     pub undefined_where_lost : (address : ℕ) → effect.answer ≡ NoFrames address → (comes : Result Outcome BuildFault) → BuildOutcome shown opts.build comes → WhereOver opts.budget k input comes effect

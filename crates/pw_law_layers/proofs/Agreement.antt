@@ -23,7 +23,7 @@ use Rattle.pw_run_languages.specs.Direction.{MomentAlike}
 use Rattle.pw_run_languages.specs.Standing.{EventInWords}
 use Rattle.pw_run_languages.specs.MachineRun.{Map, traced_run}
 use Rattle.pw_run_languages.proofs.Forgetting.{forgotten, run_forgets}
-use Rattle.pw_law_source.specs.Source.{source_stages, source_runs, staged, end_of}
+use Rattle.pw_law_source.specs.Source.{source_progress, source_runs, staged_within, end_of}
 use Rattle.pw_law_source.specs.Lowering.{MomentKept}
 use Rattle.pw_law_layers.specs.Whole.{InMachine}
 use Rattle.pw_law_layers.proofs.Places.{all_layers}
@@ -103,7 +103,7 @@ calls_forget (Over end v) = refl
 calls_forget run.Wrong = refl
 
 outcome_forgets : (n : ℕ) (o : Outcome (Unit {0}))
-    → shown_by forgotten (staged n o) ≡ agreement.stage_by n (record { end = end_of (seen o).end; output = (seen o).out; read = (seen o).read }) (end_of (seen o).end)
+    → shown_by forgotten (staged_within n o) ≡ agreement.stage_by n (record { end = end_of (seen o).end; output = (seen o).out; read = (seen o).read }) (end_of (seen o).end)
 outcome_forgets n (Gives done s) = refl
 outcome_forgets n (Ends (Exit status) s) = refl
 outcome_forgets n (Ends StackFull s) = refl
@@ -112,19 +112,19 @@ outcome_forgets n (Ends (Undefined operation home token) s) = refl
 outcome_forgets n (Ends Wrong s) = refl
 
 source_forgets : (p : source.Program) (frame_of : List ℕ → ℕ) (stack : ℕ) (input : List ℕ) (n : ℕ)
-    → shown_by forgotten (source_stages p frame_of stack input n) ≡ agreement.source_stages (source_runs p frame_of stack input) n
-unfolding source_stages source_run
+    → shown_by forgotten (source_progress p frame_of stack input n) ≡ agreement.source_stages (source_runs p frame_of stack input) n
+unfolding source_progress source_run
 source_forgets p frame_of stack input n =
     outcome_forgets n (run_main (record { program = p; frame_of = frame_of; stack = stack }) n (start_state p input))
 
 -- the agreement of source and machine
 pub agrees : (p : source.Program) (frame_of : List ℕ → ℕ) (stack : ℕ) (input : List ℕ) (q : Program) (named : List ℕ → ℕ) (m : Map) (c : Core)
-    → Refines (InMachine q named) (source_stages p frame_of stack input) (calls_of (traced_run m c input))
+    → Refines (InMachine q named) (source_progress p frame_of stack input) (calls_of (traced_run m c input))
     → Agree (source_runs p frame_of stack input) c input
 agrees p frame_of stack input q named m c r =
     λ n. subst (λ s. Met Whatever s (machine_run c input)) (source_forgets p frame_of stack input n)
-    (met_by Whatever (shown_by forgotten (source_stages p frame_of stack input n))
+    (met_by Whatever (shown_by forgotten (source_progress p frame_of stack input n))
     (λ k. shown_by forgotten (calls_of (traced_run m c input) k)) (machine_run c input)
     (λ k. calls_forget (traced_run m c input k) ∙ run_forgets m c input k)
     (met_shown (InMachine q named) Whatever forgotten forgotten (nothing_alike (InMachine q named))
-    (source_stages p frame_of stack input n) (calls_of (traced_run m c input)) (r n)))
+    (source_progress p frame_of stack input n) (calls_of (traced_run m c input)) (r n)))

@@ -33,7 +33,7 @@ use Rattle.pw_run_languages.specs.Standing.{EventInWords}
 use Rattle.pw_run_languages.specs.LineRun.{line_run}
 use Rattle.pw_run_languages.specs.SelectionLaws.{line_program, placed_program, SelectionKeeps, PlacementKeepsRuns}
 use Rattle.pw_run_languages.specs.LinkingLaws.{LinkKeeps, address_of, frame_in, map_of, image_run}
-use Rattle.pw_law_source.specs.Source.{source_stages, source_runs}
+use Rattle.pw_law_source.specs.Source.{source_stages, source_progress, source_runs}
 use Rattle.pw_law_source.specs.Lowering.{MomentKept}
 use Rattle.pw_law_layers.specs.Whole.{InMachine, image_of, LayersHold, LayersCompose}
 use Rattle.pw_law_layers.specs.Guarding.{SoundDirectivesGuard}
@@ -41,6 +41,7 @@ use Rattle.pw_law_layers.specs.Rooms.{MapHasFrames}
 use Rattle.pw_law_layers.proofs.Fitting.{places_fit}
 use Rattle.pw_law_layers.proofs.Frames.{frames_are, frame_of_room}
 use Rattle.pw_law_layers.proofs.Agreement.{source_to_machine, source_to_webs, agrees, places_kind, words_kind}
+use Rattle.pw_law_layers.proofs.Roomless.{stages_kept}
 use Rattle.pw_law_layers.proofs.Noted.{defined_notes, registers_closed, traffic_closed, same_logs, same_kinds}
 
 -- what the lines note of registers holds of the machine
@@ -77,7 +78,7 @@ record Holding (p : source.Program) (q : Program) (d : List (List ℕ × Directi
 
 -- the runs of a built program, and what each layer keeps
 record Layers (p : source.Program) (q : Program) (d : List (List ℕ × Directives)) (functions : List Located) (v : Image) (frame_of : List ℕ → ℕ) (stack : ℕ) (input : List ℕ) : Type 0 where
-  low : Refines (MomentKept q) (source_stages p frame_of stack input) (flow_run q input)
+  low : Refines (MomentKept q) (source_progress p frame_of stack input) (flow_run q input)
   direction : DirectionKeeps q d input
   places : PlacesKeep q d functions input
   link : LinkKeeps q functions v input
@@ -95,12 +96,13 @@ whole p q d functions v frame_of stack input l words =
     let lines = line_run (line_program q functions) l.link.addresses l.link.scratch input in
     let machine = image_run q functions v input in
     let down = late_same lines (line_run (placed_program q functions) l.link.addresses l.link.scratch input) machine l.placement l.link.runs in
-    let all = source_to_machine q (address_of v) source (flow_run q input) webs places lines machine
-    l.low l.direction.runs l.places.runs words down in
-    let to_webs = source_to_webs q source (flow_run q input) webs l.low l.direction.runs in
+    let low = stages_kept (MomentKept q) p frame_of stack input (flow_run q input) l.low in
+    let to_machine : (stages : ℕ → Stage Moment) → Refines (MomentKept q) stages (flow_run q input) → Refines (InMachine q (address_of v)) stages (calls_of machine) =
+    λ stages kept. source_to_machine q (address_of v) stages (flow_run q input) webs places lines machine kept l.direction.runs l.places.runs words down in
+    let to_webs = source_to_webs q source (flow_run q input) webs low l.direction.runs in
     record {
-      agree = agrees p frame_of stack input q (address_of v) (map_of q functions v) (image_start v.memory) all;
-      places = all;
+      agree = agrees p frame_of stack input q (address_of v) (map_of q functions v) (image_start v.memory) (to_machine (source_progress p frame_of stack input) l.low);
+      places = to_machine source low;
       registers = λ defined n. defined_notes (KeepRegisters d) (registers_closed d) p frame_of stack input (map_of q functions v) (image_start v.memory) defined
           (λ k. registers_down d (source k) lines machine down
           (met_on (FollowsCalls (graph_of q)) (KeepRegisters d) (source k) places lines
@@ -131,7 +133,7 @@ composes map placement guard hold selection link p q d functions objects input b
     let l = link q d functions objects input program built.names built.database.directives built.serve built.made built.fits bytes in
     hold p q d functions objects input
     (record {
-      lowering = subst (λ (F : List ℕ → ℕ). Refines (MomentKept q) (source_stages p F q.stack input) (flow_run q input)) built.frames
+      lowering = subst (λ (F : List ℕ → ℕ). Refines (MomentKept q) (source_progress p F q.stack input) (flow_run q input)) built.frames
           (built.implements.runs input frames.library bytes);
       direction = direction;
       places = places;

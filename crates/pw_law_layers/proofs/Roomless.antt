@@ -10,11 +10,12 @@ use Rattle.pw_flow.specs.declared.flow.Op.TheVariants.{AddrGlobal, AddrFn, LoadG
 use Rattle.pw_cmean.specs.Worlds.{Program}
 use Rattle.pw_cmean.specs.Acts as source
 use Rattle.pw_cmean.specs.Acts.{Outcome, Gives, Ends}
-use Rattle.pw_run.specs.Runs.{Stage, Going, Over, Wrong, AreAlike, none, also, Met}
+use Rattle.pw_cmean.specs.SourceRun.{run_main, start_state}
+use Rattle.pw_run.specs.Runs.{Stage, Going, Over, Wrong, AreAlike, none, also, Met, Refines}
 use Rattle.pw_run_languages.specs.Programs as flows
 use Rattle.pw_run_languages.specs.FlowRun as flow
 use Rattle.pw_run_languages.specs.LawfulPrograms.{NamesRightly, IsItem, IsProgram}
-use Rattle.pw_law_source.specs.Source.{staged, staged_within}
+use Rattle.pw_law_source.specs.Source.{staged, staged_within, source_stages, source_progress}
 use Rattle.pw_law_source.specs.Lowering.{MomentKept, flow_program, IsAccepted}
 use Rattle.pw_law_layers.specs.Whole.{roomless}
 
@@ -89,10 +90,16 @@ module _ {M N : Type 0} (F G : M → N → Type 0) (weaker : (m : M) (n : N) →
 
 -- ---- stages
 
-pub stages_met : {N : Type 0} (Alike : source.Moment → N → Type 0) (n : ℕ) (o : Outcome (Unit {0})) (b : ℕ → Stage N) → Met Alike (staged_within n o) b → Met Alike (staged n o) b
+stages_met : {N : Type 0} (Alike : source.Moment → N → Type 0) (n : ℕ) (o : Outcome (Unit {0})) (b : ℕ → Stage N) → Met Alike (staged_within n o) b → Met Alike (staged n o) b
 stages_met Alike n (Gives done s) b h = h
 stages_met Alike n (Ends (source.Exit status) s) b h = h
 stages_met Alike n (Ends source.StackFull s) b h = h
 stages_met Alike n (Ends source.Bound s) b h = h
 stages_met Alike n (Ends (source.Undefined operation home token) s) b h = tt
 stages_met Alike n (Ends source.Wrong s) b h = tt
+
+pub stages_kept : {N : Type 0} (Alike : source.Moment → N → Type 0) (p : Program) (frame_of : List ℕ → ℕ) (stack : ℕ) (input : List ℕ) (b : ℕ → Stage N)
+    → Refines Alike (source_progress p frame_of stack input) b → Refines Alike (source_stages p frame_of stack input) b
+unfolding source_stages source_progress
+stages_kept Alike p frame_of stack input b h =
+    λ n. stages_met Alike n (run_main (record { program = p; frame_of = frame_of; stack = stack }) n (start_state p input)) b (h n)

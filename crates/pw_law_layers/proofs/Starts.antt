@@ -16,14 +16,13 @@ use Rattle.pw_flow.specs.FlowGraph.{function_names}
 use Rattle.pw_flow.specs.FrameRooms.{flow_room}
 use Rattle.pw_lower.specs.Modules.{lowered, lowered_function, start_of, start_function, is_main}
 use Rattle.pw_cmean.specs.Worlds.{ProgramModule, full_name}
-use Rattle.pw_cmean.specs.SourceRun.{run_main, start_state}
 use Rattle.pw_run_languages.specs.FlowRun.{flow_run}
 use Rattle.pw_law_lower.specs.Parts.{partless}
-use Rattle.pw_law_source.specs.Source.{source_stages, source_progress}
+use Rattle.pw_law_source.specs.Source.{source_progress}
 use Rattle.pw_law_source.specs.Lowering.{MomentKept, flow_program}
 use Rattle.pw_law_layers.specs.Whole.{roomless, LoweredHaveRooms, LoweredImplements}
 use Rattle.pw_law_layers.proofs.Frames.{nowhere, first_there, map_there}
-use Rattle.pw_law_layers.proofs.Roomless.{accepted_stays, kept_with_room, met_so, stages_met}
+use Rattle.pw_law_layers.proofs.Roomless.{accepted_stays, kept_with_room, met_so}
 
 -- ---- elements
 
@@ -182,12 +181,9 @@ lowered_rooms rooms least p frame_of stack parts accepted =
     }
 
 pub lowered_implements : LoweredHaveRooms → LoweredImplements
-unfolding source_stages source_progress
 lowered_implements rooms low p frame_of stack checked parts accepted = record {
   program = accepted.program;
-  runs = λ input none bytes n.
-      stages_met (MomentKept (flow_program p frame_of stack)) n (run_main (record { program = p; frame_of = frame_of; stack = stack }) n (start_state p input))
-      (flow_run (flow_program p frame_of stack) input) (low p frame_of stack input checked accepted none bytes n);
+  runs = λ input none bytes. low p frame_of stack input checked accepted none bytes;
   progress = λ input bytes n.
       met_so (MomentKept (roomless (flow_program p frame_of stack))) (MomentKept (flow_program p frame_of stack)) (kept_with_room (flow_program p frame_of stack))
       (source_progress p (λ f. 0) 0 input n) (flow_run (roomless (flow_program p frame_of stack)) input)

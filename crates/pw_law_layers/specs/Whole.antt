@@ -117,13 +117,13 @@ pub record HaveRooms (p : Program) (q : flows.Program) : Type 0 where
 abbrev pub roomless : flows.Program → flows.Program
 roomless q = record q { frame_of = λ f. 0; stack = 0 }
 
--- Flow graphs do what the program means, with their frames and their stack, and none takes more room than its source:
--- those that lowering gives, or what later passes make of them. Where no function takes room they come as far as the source,
--- also where that comes to an undefined operation.
+-- Flow graphs do what the program means, up to an undefined operation if it comes to one, with their frames and their stack,
+-- and where no function takes room; and none takes more room than its source: those that lowering gives, or what later passes
+-- make of them.
 pub record Implements (p : Program) (q : flows.Program) : Type 0 where
   pub program : IsProgram q
   pub runs : (input : List ℕ) → NoneForLibrary q.frame_of → AreBytes input →
-      Refines (MomentKept q) (source_stages p q.frame_of q.stack input) (flow.flow_run q input)
+      Refines (MomentKept q) (source_progress p q.frame_of q.stack input) (flow.flow_run q input)
   pub progress : (input : List ℕ) → AreBytes input →
       Refines (MomentKept q) (source_progress p (λ f. 0) 0 input) (flow.flow_run (roomless q) input)
   pub rooms : HaveRooms p q
@@ -147,7 +147,7 @@ pub record IsBuilt (p : Program) (q : flows.Program) (d : List (List ℕ × Dire
 -- ---- what holds of them
 
 pub record Holds (p : Program) (q : flows.Program) (d : List (List ℕ × Directives)) (functions : List Located) (objects : List Object) (input : List ℕ) : Type 0 where
-  -- the source agrees with the machine
+  -- the source agrees with the machine, up to an undefined operation
   pub agree : Agree (source_runs p (frame_in (image_of objects q.stack)) q.stack input) (image_start (image_of objects q.stack).memory) input
   -- each global has its value in its place at each call and return
   pub places : Refines (InMachine q (address_of (image_of objects q.stack)))
@@ -162,7 +162,7 @@ pub record Holds (p : Program) (q : flows.Program) (d : List (List ℕ × Direct
 -- What each layer keeps in the runs of one program, with its flow graphs, its directives and its places: selection and
 -- placement at the addresses that linking gives, with the words that the routines leave there.
 pub record LayersKeep (p : Program) (q : flows.Program) (d : List (List ℕ × Directives)) (functions : List Located) (objects : List Object) (input : List ℕ) : Type 0 where
-  pub lowering : Refines (MomentKept q) (source_stages p (frame_in (image_of objects q.stack)) q.stack input) (flow.flow_run q input)
+  pub lowering : Refines (MomentKept q) (source_progress p (frame_in (image_of objects q.stack)) q.stack input) (flow.flow_run q input)
   pub direction : DirectionKeeps q d input
   pub places : PlacesKeep q d functions input
   pub linking : LinkKeeps q functions (image_of objects q.stack) input

@@ -24,7 +24,7 @@ use Rattle.pw_lower.specs.declared.place.Target.{Target}
 use Rattle.pw_lower.specs.declared.place.Target.TheVariants.{Kept, Named, Led}
 use Rattle.pw_lower.specs.Codes.{Lowered, lowered_as, temp_of, emit, fresh, constant, reserve, reserve_temps, cut_here, value_is}
 use Rattle.pw_lower.specs.Places.{place_at}
-use Rattle.pw_lower.specs.Operators.{kind_of, with, scaled, moved_by, distance, on_numbers, operation_of, is_turned, sum_or, combined, is_signed, target_size, truth_in, unary_on, extension, extended, converted, step_operator, is_behind, bytes_of, unit_of}
+use Rattle.pw_lower.specs.Operators.{kind_of, with, scaled, moved_by, distance, on_numbers, operation_of, is_turned, sum_or, combined, is_signed, target_size, truth_in, unary_on, extension, extending, extended, converted, step_operator, is_behind, bytes_of, unit_of}
 use Rattle.pw_flow.specs.FrameRooms.{argument_count}
 use Rattle.pw_lower.specs.Expressions.{Home, Placed, full_name, shape_at, read_target, read, write, further, address_of_global, address_of_local, target_of_local, value_at, value_of_global, value_of_local, stored, copied, scalar_kind, updated, fork, in_result, decides, says, gives, is_void, lower, place, arguments}
 use Rattle.pw_law_lower.proofs.Growth.{Grows, joins, within, same, emits, reserves_temps, reserves, cuts, turns, adds}
@@ -71,7 +71,7 @@ sum_or-adds o s left right p q c = on_numbers-adds o s p q c
 
 extended-adds : (k : Option ExtKind) (t : ℕ) (c : Code) → Grows c (extended k t c).code 0 1
 extended-adds None t c = within (same c) (omega arith)
-extended-adds (Some k) t c = adds (λ r. op.Ext k r t) 0 c refl
+extended-adds (Some k) t c = adds (extending k t) 0 c refl
 
 converted-adds : (from to : Option Kind) (x : Lowered) → Grows x.code (converted from to x).code 0 1
 converted-adds None to x = within (same x.code) (omega arith)

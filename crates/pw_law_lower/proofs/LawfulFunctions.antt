@@ -5,7 +5,7 @@ use Rattle.std.specs.Prelude.{sum_by}
 use Rattle.std.specs.List.{AllByRecursion}
 use Rattle.pw_value.specs.Limits.{room_limit}
 use Rattle.pw_flow.specs.declared.flow.Op.{Op}
-use Rattle.pw_flow.specs.declared.flow.Op.TheVariants.{Const, Copy, Un, Bin, Ext, AddrGlobal, AddrSlot, AddrFn, LoadG, StoreG, Load, Store, Move, Call, CallInd}
+use Rattle.pw_flow.specs.declared.flow.Op.TheVariants.{Const, Bin, AddrGlobal, AddrSlot, AddrFn, LoadG, StoreG, Store, Move, Call, CallInd}
 use Rattle.pw_flow.specs.declared.flow.Block.{Block}
 use Rattle.pw_flow.specs.declared.flow.FlowFn.{FlowFn}
 use Rattle.pw_flow.specs.FrameRooms.{flow_room}
@@ -20,20 +20,17 @@ both P Q R (x ∷ xs) f h i = (f x h.0 i.0, both P Q R xs f h.1 i.1)
 
 lawful_op : (temps slots : ℕ) (o : Op) → IsInRange temps slots o → IsBounded o → IsOp temps slots o
 lawful_op temps slots (Const t n) h i = (h.1, i)
-lawful_op temps slots (Copy t a) h i = (h.1, h.0.0)
-lawful_op temps slots (Un k t a) h i = (h.1, h.0.0)
 lawful_op temps slots (Bin k t a b) h i = (h.1, h.0.0, h.0.1.0)
-lawful_op temps slots (Ext k t a) h i = (h.1, h.0.0)
 lawful_op temps slots (AddrGlobal t g n) h i = (h.1, i)
 lawful_op temps slots (AddrSlot t s) h i = (h.1, h.2.0)
 lawful_op temps slots (AddrFn t f) h i = h.1
 lawful_op temps slots (LoadG t g k) h i = h.1
 lawful_op temps slots (StoreG g a k) h i = h.0.0
-lawful_op temps slots (Load k t a) h i = (h.1, h.0.0)
 lawful_op temps slots (Store k a b) h i = (h.0.0, h.0.1.0)
 lawful_op temps slots (Move a b size unit) h i = (h.0.0, h.0.1.0, i)
 lawful_op temps slots (Call t f args) h i = (h.1, record { few = i; below = h.0 })
 lawful_op temps slots (CallInd t a shape args) h i = (h.1, h.0.0, record { few = i; below = h.0.1 })
+lawful_op temps slots o h i = (h.1, h.0.0)
 
 lawful_block : (temps slots blocks : ℕ) (b : Block) → IsBlockInRange temps slots blocks b → IsBlockBounded b → IsBlock temps slots blocks b
 lawful_block temps slots blocks b h i = record {

@@ -26,7 +26,7 @@ use Rattle.pw_lower.specs.declared.place.Target.{Target}
 use Rattle.pw_lower.specs.declared.place.Target.TheVariants.{Kept, Named, Led}
 use Rattle.pw_lower.specs.Codes.{Lowered, lowered_as, temp_of, emit, fresh, constant, reserve, reserve_temps, cut_here, value_is}
 use Rattle.pw_lower.specs.Places.{place_at}
-use Rattle.pw_lower.specs.Operators.{kind_of, with, scaled, moved_by, distance, on_numbers, operation_of, is_turned, sum_or, combined, is_signed, target_size, truth_in, unary_on, extension, extended, converted, step_operator, is_behind, bytes_of, unit_of}
+use Rattle.pw_lower.specs.Operators.{kind_of, with, scaled, moved_by, distance, on_numbers, operation_of, is_turned, sum_or, combined, is_signed, target_size, truth_in, unary_on, extension, extending, extended, converted, step_operator, is_behind, bytes_of, unit_of}
 use Rattle.pw_lower.specs.Expressions.{Home, Placed, full_name, shape_at, read_target, read, write, further, address_of_global, address_of_local, target_of_local, value_at, value_of_global, value_of_local, stored, copied, scalar_kind, updated, fork, in_result, decides, says, gives, is_void, cast_to, lower, place, arguments, Arguments}
 use Rattle.pw_law_lower.specs.Ranges.{IsInRange}
 use Rattle.pw_law_lower.proofs.Sound.{below_more_all, Sound, Goes, Made, stays, goes_then, made_then, less, emits-in, temps-in, blocks-in, cuts-in, adds-in, constant-in}
@@ -73,7 +73,7 @@ sum_or-in slots o v left right p q c s h i = on_numbers-in slots o v p q c s h i
 
 extended-in : (slots n : ℕ) (k : Option ExtKind) (t : ℕ) (c : Code) → Sound slots c → n ≤ 1 → t + n ≤ c.temps → Made slots c n (extended k t c)
 extended-in slots n None t c s l h = record { goes = stays slots c s; reach = h }
-extended-in slots n (Some k) t c s l h = adds-in slots n (λ r. op.Ext k r t) c s l ((omega (arith, h), tt), omega arith, tt)
+extended-in slots n (Some k) t c s l h = adds-in slots n (extending k t) c s l ((omega (arith, h), tt), omega arith, tt)
 
 converted-in : (slots n : ℕ) (from to : Option Kind) (c : Code) (x : Lowered) → n ≤ 1 → Made slots c n x → Made slots c n (converted from to x)
 converted-in slots n None to c x l m = m

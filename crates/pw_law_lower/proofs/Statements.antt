@@ -6,7 +6,7 @@ use Rattle.pw_value.specs.declared.value.Kind.{Kind}
 use Rattle.pw_types.specs.Labels.{labels_in, labels_among, labels_of_arms, labels_behind, cases_in, cases_among, cases_of_arms, cases_behind}
 use Rattle.pw_types.specs.Rooms.{expr_nodes, optional_nodes, initialiser_nodes, stmt_nodes, arm_nodes, else_nodes, nodes_of_statements}
 use Rattle.pw_types.specs.TypeTrees.{CType}
-use Rattle.pw_types.specs.TypedTrees.{Expression, Node, Initialiser, Value, Bytes, Hidden, CaseValue, Statement, Empty, Evaluate, Block, If, While, Do, For, Switch, Label, Goto, Break, Continue, Return, Arms, NoArm, Arm, Otherwise, NoElse, Else, Statements, NoStatement, OneStatement, LocalValue}
+use Rattle.pw_types.specs.TypedTrees.{Expression, Node, Initialiser, Value, Bytes, Hidden, CaseValue, Statement, Empty, Evaluate, Block, If, While, Do, For, Switch, Label, Return, Arms, NoArm, Arm, Otherwise, NoElse, Else, Statements, NoStatement, OneStatement, LocalValue}
 use Rattle.pw_flow.specs.declared.flow.BinKind.TheVariants.{Eq}
 use Rattle.pw_flow.specs.declared.flow.End.TheVariants.{Jump, Branch, Return as Returns}
 use Rattle.pw_lower.specs.declared.code.Code.{Code}
@@ -191,10 +191,9 @@ mutual
       (omega (arith, cases_bound cases default (cases_in body)))
   statement-adds f ways (Label t labels body) c =
       within (joins (begun-adds labels c) (statement-adds f ways body (begun labels c))) (omega (arith, length-append labels (labels_in body)))
-  statement-adds f ways (Goto t l) c = within (leaves (Jump (block_of_label c l)) c) (omega arith)
-  statement-adds f ways (Break t) c = within (leaves (Jump ways.out) c) (omega arith)
-  statement-adds f ways (Continue t) c = within (leaves (Jump ways.on) c) (omega arith)
   statement-adds f ways (Return t e) c = within (returning-adds f.home e c) (omega arith)
+  -- a jump
+  statement-adds f ways s c = within (leaves _ c) (omega arith)
 
   arms-add :
       (f : Frame) (ways : Ways) (arms : Arms) (last : Option (Code → Code)) (k m : ℕ) → LastAdds last k m → (c : Code)

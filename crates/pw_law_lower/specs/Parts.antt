@@ -1,6 +1,6 @@
 -- Initialisers of locals by a list in braces or a string that have no part. In a text there is none (C90 6.5.7).
 use Rattle.std.specs.Prelude.{ℕ, ◌+◌, [], ◌∷◌, sum_by}
-use Rattle.pw_types.specs.TypedTrees.{Initialiser, Value, Bytes, Statement, Empty, Evaluate, Block, If, While, Do, For, Switch, Label, Goto, Break, Continue, Return, Arms, NoArm, Arm, Otherwise, NoElse, Else, Statements, NoStatement, OneStatement}
+use Rattle.pw_types.specs.TypedTrees.{Initialiser, Value, Bytes, Statement, Block, If, While, Do, For, Switch, Label, Arms, NoArm, Arm, Otherwise, NoElse, Else, Statements, NoStatement, OneStatement}
 
 abbrev pub partless_in : Initialiser → ℕ
 partless_in (Value k e) = 0
@@ -10,8 +10,6 @@ partless_in (Bytes k hidden (e ∷ rest)) = 0
 -- how many stand in a statement
 abbrev mutual
   pub partless : Statement → ℕ
-  partless (Empty t) = 0
-  partless (Evaluate t e) = 0
   partless (Block t first count initialisers items) = sum_by partless_in initialisers + partless_among items
   partless (If t arms otherwise) = partless_of_arms arms + partless_behind otherwise
   partless (While t e body) = partless body
@@ -19,10 +17,7 @@ abbrev mutual
   partless (For t a b c body) = partless body
   partless (Switch t e cases default body) = partless body
   partless (Label t labels body) = partless body
-  partless (Goto t n) = 0
-  partless (Break t) = 0
-  partless (Continue t) = 0
-  partless (Return t e) = 0
+  partless s = 0
 
   pub partless_among : Statements → ℕ
   partless_among NoStatement = 0

@@ -21,7 +21,7 @@ use Rattle.pw_lower.specs.declared.code.Numbered.{Numbered}
 use Rattle.pw_lower.specs.declared.place.Target.{Target}
 use Rattle.pw_lower.specs.declared.place.Target.TheVariants.{Kept, Named, Led}
 use Rattle.pw_lower.specs.Codes.{Lowered, lowered_as, temp_of, emit, fresh, constant, reserve, reserve_temps, cut, leave, value_is}
-use Rattle.pw_lower.specs.Operators.{kind_of, with, scaled, moved_by, distance, on_numbers, operation_of, is_turned, sum_or, combined, is_signed, target_size, truth_in, unary_on, extension, extended, converted, bytes_of, unit_of}
+use Rattle.pw_lower.specs.Operators.{kind_of, with, scaled, moved_by, distance, on_numbers, operation_of, is_turned, sum_or, combined, is_signed, target_size, truth_in, unary_on, extension, extending, extended, converted, bytes_of, unit_of}
 use Rattle.pw_lower.specs.Expressions.{read_target, write, further, value_at, value_of_global, stored, copied, updated, fork}
 use Rattle.pw_law_lower.specs.Kept.{IsStillFilled, IsClosedNext, Keeps}
 use Rattle.pw_law_lower_walk.specs.Named.{NamesAmong}
@@ -115,7 +115,7 @@ module _ (objects functions : List (List ℕ)) where
 
   extended_back : (k : Option ExtKind) (t : ℕ) (c : Code) → Holds (extended k t c).code → Holds c
   extended_back None t c h = h
-  extended_back (Some k) t c h = (fresh_back (λ r. op.Ext k r t) c h).0
+  extended_back (Some k) t c h = (fresh_back (extending k t) c h).0
 
   converted_back : (from to : Option Kind) (x : Lowered) → Holds (converted from to x).code → Holds x.code
   converted_back None to x h = h

@@ -29,7 +29,7 @@ use Rattle.pw_lower.specs.declared.place.Target.{Target}
 use Rattle.pw_lower.specs.declared.place.Target.TheVariants.{Kept, Named, Led}
 use Rattle.pw_lower.specs.Codes.{Lowered, lowered_as, temp_of, emit, fresh, constant, reserve, reserve_temps, cut, cut_here, leave, value_is}
 use Rattle.pw_lower.specs.Places.{place_at}
-use Rattle.pw_lower.specs.Operators.{kind_of, with, scaled, moved_by, distance, on_numbers, operation_of, is_turned, sum_or, combined, is_signed, target_size, truth_in, unary_on, extension, extended, converted, step_operator, is_behind, bytes_of, unit_of}
+use Rattle.pw_lower.specs.Operators.{kind_of, with, scaled, moved_by, distance, on_numbers, operation_of, is_turned, sum_or, combined, is_signed, target_size, truth_in, unary_on, extension, extending, extended, converted, step_operator, is_behind, bytes_of, unit_of}
 use Rattle.pw_lower.specs.Expressions.{Home, Placed, full_name, shape_at, read_target, read, write, further, address_of_global, address_of_local, target_of_local, value_at, value_of_global, value_of_local, stored, copied, scalar_kind, updated, fork, decides, says, gives, is_void, lower, place, arguments}
 use Rattle.pw_law_lower_walk.specs.Parts.{EachExpression, count_of}
 use Rattle.pw_law_lower_walk.specs.Given.{IsBare, OfNumber, OfSize, OfCopy, OfObject, Nodes}
@@ -123,7 +123,7 @@ module _ (P : Op → Type 0) (D : ℕ → Type 0) (bare : (o : Op) → IsBare o 
 
   extended_good : (k : Option ExtKind) (t : ℕ) (c : Code) → Fine c → Fine (extended k t c).code
   extended_good None t c g = g
-  extended_good (Some k) t c g = adds_bare (λ r. op.Ext k r t) c tt g
+  extended_good (Some k) t c g = adds_bare (extending k t) c tt g
 
   converted_good : (from to : Option Kind) (x : Lowered) → Fine x.code → Fine (converted from to x).code
   converted_good None to x g = g

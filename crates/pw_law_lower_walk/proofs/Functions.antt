@@ -3,7 +3,7 @@ use Rattle.std.proofs.Common.{◌≡◌, ℕ, zero, suc, ◌+◌, ◌==◌, Bool
 use Rattle.std.specs.List.{AllByRecursion}
 use Rattle.pw_value.specs.declared.value.Kind.{Kind}
 use Rattle.pw_types.specs.TypeTrees.{CType, type_of, RecordValue}
-use Rattle.pw_types.specs.TypedTrees.{Expression, Initialiser, Value, Bytes, Hidden, CaseValue, Statement, Empty, Evaluate, Block, If, While, Do, For, Switch, Label, Goto, Break, Continue, Return, Arms, NoArm, Arm, Otherwise, NoElse, Else, Statements, NoStatement, OneStatement, LocalValue, FunctionValue}
+use Rattle.pw_types.specs.TypedTrees.{Expression, Initialiser, Value, Bytes, Hidden, CaseValue, Statement, Empty, Evaluate, Block, If, While, Do, For, Switch, Label, Return, Arms, NoArm, Arm, Otherwise, NoElse, Else, Statements, NoStatement, OneStatement, LocalValue, FunctionValue}
 use Rattle.pw_flow.specs.declared.flow.Op.{Op}
 use Rattle.pw_flow.specs.declared.flow.Op.TheVariants as op
 use Rattle.pw_flow.specs.declared.flow.BinKind.TheVariants.{Eq}
@@ -213,10 +213,9 @@ module _ (P : Op → Type 0) (D : ℕ → Type 0) (fr : Frame) (N : Expression �
         (give.cases d (Switch t e cases default body) w) (λ out b q. statement_good body (record ways { out = out }) d b n.1 q) g
     statement_good (Label t labels body) ways d c w g =
         statement_good body ways d (begun labels c) (give.parts d (Label t labels body) w) (begun_good d (give.depth d (Label t labels body) w) labels c g)
-    statement_good (Goto t l) ways d c w g = leave_good d (give.depth d (Goto t l) w) (Jump (block_of_label c l)) c g
-    statement_good (Break t) ways d c w g = leave_good d (give.depth d (Break t) w) (Jump ways.out) c g
-    statement_good (Continue t) ways d c w g = leave_good d (give.depth d (Continue t) w) (Jump ways.on) c g
     statement_good (Return t e) ways d c w g = returning_good d (give.depth d (Return t e) w) e c (give.parts d (Return t e) w) g
+    -- a jump
+    statement_good s ways d c w g = leave_good d (give.depth d s w) _ c g
 
     arms_good : (arms : Arms) (last : Option (Code → Code)) (ways : Ways) (d : ℕ) (c : Code) → D d → EachArm N (S d) arms → LastGood d last → Good P D d c → Good P D d (lower_arms fr ways arms last c)
     arms_good NoArm None ways d c deep w h g = g

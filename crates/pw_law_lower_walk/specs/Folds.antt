@@ -52,7 +52,6 @@ EachNodeAmong P args = OverArguments (Beside P) args
 
 abbrev mutual
   pub InStatement : (Expression → Type 0) → (Initialiser → Type 0) → Statement → Type 0
-  InStatement N I (T.Empty t) = Unit {0}
   InStatement N I (T.Evaluate t e) = N e
   InStatement N I (T.Block t first count initialisers items) = AllByRecursion I initialisers × InStatements N I items
   InStatement N I (T.If t arms otherwise) = InArms N I arms × InOtherwise N I otherwise
@@ -61,10 +60,8 @@ abbrev mutual
   InStatement N I (T.For t a b c body) = IfAny N a × IfAny N b × IfAny N c × InStatement N I body
   InStatement N I (T.Switch t e cases default body) = N e × InStatement N I body
   InStatement N I (T.Label t labels body) = InStatement N I body
-  InStatement N I (T.Goto t n) = Unit {0}
-  InStatement N I (T.Break t) = Unit {0}
-  InStatement N I (T.Continue t) = Unit {0}
   InStatement N I (T.Return t e) = IfAny N e
+  InStatement N I s = Unit {0}
 
   pub InStatements : (Expression → Type 0) → (Initialiser → Type 0) → Statements → Type 0
   InStatements N I NoStatement = Unit {0}

@@ -1,2 +1,1 @@
-pub mod Directions
 pub mod Made

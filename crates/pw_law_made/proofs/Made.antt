@@ -14,7 +14,7 @@ use Rattle.pw_build_objects.specs.Programs.{AreObjectsFrom, DirectivesList, IsMo
 use Rattle.pw_run_languages.specs.Direction.{directed_by}
 use Rattle.pw_debug.specs.declared.info.FrameInfo.{FrameInfo}
 use Rattle.pw_debug_frames.specs.Frames.{AreFrames, AreFramesOf, frame_info, frames_in, next_object, no_object}
-use Rattle.pw_law_made.proofs.Directions.{entries_are, entry_in}
+use Rattle.pw_run_languages.proofs.Directives.{entries_are, entry_in}
 
 abbrev Inside : List Object → List FrameInfo → Type 0
 Inside [] frames = frames ≡ []

@@ -42,7 +42,7 @@ pub record Means (texts : Texts) (opts : Opts) (bytes : List ℕ) : Type 0 where
   pub file : IsImageFile bytes contents
   -- no run of the program goes wrong in a way that C does not know: what counts as undefined below is what C leaves undefined
   pub sense : (input : List ℕ) → AreBytes input → (bound : ℕ) → (source_run program (frame_in contents.value) opts.stack input bound).end ≢ Wrong
-  -- on every input the machine does what the program does, as far as each bound for which its run meets no undefined operation
+  -- on every input the machine does what the program does, within each bound, up to an undefined operation if the run meets one
   pub agree : (input : List ℕ) → AreBytes input → Agree (runs_of program contents.value opts.stack input) (image_start contents.value.memory) input
   -- so a run of the machine within a budget tells what the program does, where that is defined
   pub tells : (input : List ℕ) → AreBytes input → (budget bound : ℕ) → budget < bound → IsMeaningful (runs_of program contents.value opts.stack input bound).end →

@@ -12,7 +12,7 @@ use Rattle.pw_types.specs.TypeTrees.{CType, Void, Int, Pointer, Array, Function 
 use Rattle.pw_types.specs.Layouts.{layout_of}
 use Rattle.pw_types.specs.Records.{IsObjectType}
 use Rattle.pw_types.specs.Labels.{labels_in, labels_among, labels_of_arms, labels_behind}
-use Rattle.pw_types.specs.TypedTrees.{Hidden, Expression, Initialiser, Value as ByValue, Bytes as ByBytes, Statement, Empty, Evaluate, Block, If, While, Do, For, Switch, Label, Goto, Break, Continue, Return, Arms, NoArm, Arm, Otherwise, NoElse, Else, Statements, NoStatement, OneStatement, LocalValue, FunctionValue, GlobalValue}
+use Rattle.pw_types.specs.TypedTrees.{Hidden, Expression, Initialiser, Value as ByValue, Bytes as ByBytes, Statement, Empty, Evaluate, Block, If, While, Do, For, Switch, Label, Goto, Return, Arms, NoArm, Arm, Otherwise, NoElse, Else, Statements, NoStatement, OneStatement, LocalValue, FunctionValue, GlobalValue}
 use Rattle.pw_types.specs.WellTyped as W
 use Rattle.pw_types.specs.WellTyped.{type_in, IsTyped}
 use Rattle.pw_types.specs.TypedModules as M
@@ -497,10 +497,10 @@ module _ (types : Types) (w : World) (home : ProgramModule) (f : FunctionValue) 
         wider breaks continues (Beyond (Out f (labels_in body)) labels) (Out f (labels ++ labels_in body)) (λ m k. (k.0.0, holds-append labels (labels_in body) m k.1 k.0.1))
         (taking_up-g w breaks continues (Out f (labels_in body)) labels _ at cs l λ at' ds m. meaning-g body breaks continues from _ numbers scope ds n m h.1 r)
     meaning-g (Goto t m) breaks continues from at numbers scope cs n l h r = give-g _ (Goes m) (h, refl)
-    meaning-g (Break t) breaks continues from at numbers scope cs n l h r = give-g _ Breaks h
-    meaning-g (Continue t) breaks continues from at numbers scope cs n l h r = give-g _ Continues h
     meaning-g (Return t None) breaks continues from at numbers scope cs n l h r = give-g _ (Returns None) tt
     meaning-g (Return t (Some a)) breaks continues from at numbers scope cs n l h r = bind-g (value-g a numbers scope cs n l h.0 r) λ v i. give-g _ (Returns (Some v)) tt
+    -- a way out that is open
+    meaning-g s breaks continues from at numbers scope cs n l h r = give-g _ _ h
 
     pub items-g : (ss : Statements) (breaks continues : Bool) (from : ℕ) (at : Entry) (numbers : List (Option ℕ)) (scope : ℕ → Type 0) (cs : CallList) → Numbered f.locals numbers scope → Level w cs
         → AreStatements home.tree f breaks continues from ss → AreResolvedStatements w.program home.name scope ss → Good (Leaves breaks continues (Named f)) (items ss at cs (env numbers))

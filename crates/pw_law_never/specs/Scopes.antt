@@ -16,7 +16,6 @@ InScopeIfAny N scope (Some e) = N scope e
 -- N is what is said of expressions, I of initialisers
 abbrev mutual
   pub InScopes : ((ℕ → Type 0) → Expression → Type 0) → ((ℕ → Type 0) → Initialiser → Type 0) → (ℕ → Type 0) → Statement → Type 0
-  InScopes N I scope (T.Empty t) = Unit {0}
   InScopes N I scope (T.Evaluate t e) = N scope e
   InScopes N I scope (T.Block t first count initialisers items) =
       AllByRecursion (I (with_range first count scope)) initialisers × AllInScopes N I (with_range first count scope) items
@@ -27,10 +26,8 @@ abbrev mutual
       InScopeIfAny N scope first × InScopeIfAny N scope e × InScopeIfAny N scope third × InScopes N I scope body
   InScopes N I scope (T.Switch t e cases default body) = N scope e × InScopes N I scope body
   InScopes N I scope (T.Label t labels body) = InScopes N I scope body
-  InScopes N I scope (T.Goto t l) = Unit {0}
-  InScopes N I scope (T.Break t) = Unit {0}
-  InScopes N I scope (T.Continue t) = Unit {0}
   InScopes N I scope (T.Return t result) = InScopeIfAny N scope result
+  InScopes N I scope s = Unit {0}
 
   pub AllInScopes : ((ℕ → Type 0) → Expression → Type 0) → ((ℕ → Type 0) → Initialiser → Type 0) → (ℕ → Type 0) → Statements → Type 0
   AllInScopes N I scope NoStatement = Unit {0}

@@ -9,7 +9,7 @@ use Rattle.pw_types.specs.Labels.{labels_in, labels_among, labels_of_arms, label
 use Rattle.pw_types.specs.TypedModules.{IsSwitch, IsStatement, AreStatements, AreArms, IsElse}
 use Rattle.pw_types.specs.WellTyped.{type_in}
 use Rattle.pw_types.specs.TypeTrees.{CType, RecordValue}
-use Rattle.pw_types.specs.TypedTrees.{Expression, Initialiser, Value, Bytes, Hidden, CaseValue, Statement, Empty, Evaluate, Block, If, While, Do, For, Switch, Label, Goto, Break, Continue, Return, Arms, NoArm, Arm, Otherwise, NoElse, Else, Statements, NoStatement, OneStatement, LocalValue, FunctionValue, ModuleValue}
+use Rattle.pw_types.specs.TypedTrees.{Expression, Initialiser, Value, Bytes, Hidden, CaseValue, Statement, Empty, Evaluate, Block, If, While, Do, For, Switch, Label, Return, Arms, NoArm, Arm, Otherwise, NoElse, Else, Statements, NoStatement, OneStatement, LocalValue, FunctionValue, ModuleValue}
 use Rattle.pw_flow.specs.declared.flow.Op.TheVariants as op
 use Rattle.pw_flow.specs.declared.flow.BinKind.{BinKind}
 use Rattle.pw_flow.specs.declared.flow.BinKind.TheVariants.{Eq}
@@ -462,10 +462,9 @@ module _ (known : OfExpressions) where
     statement-opens m f breaks continues from frame ways (Label t own body) c typed fits =
         let start = begun-opens own c in
         settled (joined fits.once start (statement-opens m f breaks continues from frame ways body (begun_labels own c) typed.1 (fits-back (length c.labels) (length (begun_labels own c).labels) own (labels_in body) [] (cases_in body) start.size fits))) (λ b. omega arith)
-    statement-opens m f breaks continues from frame ways (Goto t l) c typed fits = only (leaves (Jump (block_of_label c l)) c)
-    statement-opens m f breaks continues from frame ways (Break t) c typed fits = only (leaves (Jump ways.out) c)
-    statement-opens m f breaks continues from frame ways (Continue t) c typed fits = only (leaves (Jump ways.on) c)
     statement-opens m f breaks continues from frame ways (Return t e) c typed fits = only (returning-spreads frame.home e c)
+    -- a jump
+    statement-opens m f breaks continues from frame ways s c typed fits = only (leaves _ c)
 
     pub statements-open :
         (m : ModuleValue) (f : FunctionValue) (breaks continues : Bool) (from : ℕ) (frame : Frame) (ways : Ways) (all : Statements) (c : Code)

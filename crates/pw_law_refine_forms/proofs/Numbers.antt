@@ -172,7 +172,7 @@ numbers-meet laws nums bound x numbers spots at o s p q d a b u n ha hb both hol
 
 pub before-extended : (g : FlowFn) (k : Option ExtKind) (t : ℕ) (d : Code) → ContainsCode g (lowering.extended k t d).code → ContainsCode g d
 before-extended g None t d w = w
-before-extended g (Some k) t d w = before-fresh g (λ r. op.Ext k r t) d w
+before-extended g (Some k) t d w = before-fresh g (lowering.extending k t) d w
 
 -- an extension, or none, of a number in a temporary
 extends :
@@ -184,7 +184,7 @@ extends laws bound x numbers spots None t d u n v w ready holds is e st =
     meets-here x.world bound n w u (λ r. HasValue x numbers spots [] (lowering.extended None t d) d u n (Some r))
     (record { done = nothing-done x numbers spots [] d u n ready.related; behind = ready.behind; stands = subst (λ (z : Value). Stands spots w z) (sym (is ∙ same_Some v w e)) st })
 extends laws bound x numbers spots (Some k) t d u n v w ready holds is e st =
-    laws.fresh x numbers spots [] d u n (λ i. op.Ext k i t) w w holds ready st
+    laws.fresh x numbers spots [] d u n (lowering.extending k t) w w holds ready st
     (λ rest. ap (λ (z : Option Value). run.obeys (graphs x.world) (commands.give d.temps z) (record n { frame = record n.frame { ops = rest } })) (ap (λ (z : Value). flow.extension k z) is ∙ e))
 
 with-equal : (x : Activation) (bound : ℕ) (n : Machine) (w : Value) (u : State) (Q : Value → State → Machine → Type 0) → Meets x.world bound n (Gives w u) Q → Meets x.world bound n (Gives w u) (λ r v q. Q r v q × (r ≡ w))

@@ -43,7 +43,7 @@ use Rattle.pw_law_refine_steps.proofs.Conversions.{conversions, size-one, stays}
 -- what an operand's code with an extension contains without it
 before-extended : (x : Activation) (k : Option ExtKind) (t : ℕ) (d : Code) → ContainsCode (graph_of x) (lowering.extended k t d).code → ContainsCode (graph_of x) d
 before-extended x None t d w = w
-before-extended x (Some k) t d w = before-fresh (graph_of x) (λ r. op.Ext k r t) d w
+before-extended x (Some k) t d w = before-fresh (graph_of x) (lowering.extending k t) d w
 
 -- behind an operand, an extension gives what it makes of the temporary's value
 extends :
@@ -65,7 +65,7 @@ extends x numbers spots a c s u m n None r v w y laws ready h holds is gives sta
 }
 extends x numbers spots a c s u m n (Some k) r v w y laws ready h holds is gives stands =
     let d = lower (home_of x) a c in
-    let f = fresh-reaches x numbers h.done.later.spots [] d.code u n (λ i. op.Ext k i (temp_of d)) v y holds
+    let f = fresh-reaches x numbers h.done.later.spots [] d.code u n (lowering.extending k (temp_of d)) v y holds
     (ready-then x numbers spots a c s u m n r laws ready h) stands
     (λ rest. ap (λ (z : Option Value). obeys (graphs x.world) (commands.give d.code.temps z) (record n { frame = record n.frame { ops = rest } })) (ap (λ (z : Value). flow.extension k z) is ∙ gives)) in
     record {

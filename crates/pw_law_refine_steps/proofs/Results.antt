@@ -26,7 +26,7 @@ use Rattle.pw_lower.specs.declared.place.Target.{Target}
 use Rattle.pw_lower.specs.declared.place.Target.TheVariants.{Kept, Named, Led}
 use Rattle.pw_lower.specs.Codes.{Lowered, lowered_as, temp_of, emit, fresh, constant, cut_here, value_is}
 use Rattle.pw_lower.specs.Places.{is_scalar, is_kept, places_from, has, places_of, addressed_in, addressed_in_statement}
-use Rattle.pw_lower.specs.Operators.{kind_of, with, scaled, moved_by, distance, on_numbers, operation_of, is_turned, sum_or, is_signed, target_size, extension, extended, converted, combined, step_operator, is_behind}
+use Rattle.pw_lower.specs.Operators.{kind_of, with, scaled, moved_by, distance, on_numbers, operation_of, is_turned, sum_or, is_signed, target_size, extension, extending, extended, converted, combined, step_operator, is_behind}
 use Rattle.pw_lower.specs.Expressions.{full_name, shape_at, read_target, read, further, address_of_local, value_at, value_of_global, value_of_local, stored, copied, scalar_kind, updated, fork, in_result, says, gives, is_void, lower, place, arguments}
 use Rattle.pw_law_refine.specs.Activations.{Activation, home_of, place_in, HaveSlots}
 use Rattle.pw_law_refine_steps.specs.Results.{HasNewResult}
@@ -85,7 +85,7 @@ sum-new o s left right p q c = numbers-new o s p q c
 
 extended-new : (k : Option ExtKind) (c : Code) (x : Lowered) → HasNewResult c x → c.temps ≤ x.code.temps → HasNewResult c (extended k (temp_of x) x.code)
 extended-new None c x n h = passes c x (value_is (temp_of x) x.code) n (omega arith) refl
-extended-new (Some k) c x n h = new (λ r. op.Ext k r (temp_of x)) c x.code h
+extended-new (Some k) c x n h = new (extending k (temp_of x)) c x.code h
 
 converted-new : (from to : Option Kind) (c : Code) (x : Lowered) → HasNewResult c x → HasNewResult c (converted from to x)
 converted-new None to c x n = n

@@ -25,7 +25,7 @@ use Rattle.pw_lower.specs.declared.place.Target.{Target}
 use Rattle.pw_lower.specs.declared.place.Target.TheVariants.{Kept, Named, Led}
 use Rattle.pw_lower.specs.Codes.{Lowered, lowered_as, temp_of, emit, fresh, constant, cut, cut_here, value_is}
 use Rattle.pw_lower.specs.Places.{place_at}
-use Rattle.pw_lower.specs.Operators.{kind_of, with, scaled, moved_by, distance, on_numbers, operation_of, is_turned, sum_or, is_signed, target_size, truth_in, unary_on, extension, extended, converted, combined, step_operator, is_behind, bytes_of, unit_of}
+use Rattle.pw_lower.specs.Operators.{kind_of, with, scaled, moved_by, distance, on_numbers, operation_of, is_turned, sum_or, is_signed, target_size, truth_in, unary_on, extension, extending, extended, converted, combined, step_operator, is_behind, bytes_of, unit_of}
 use Rattle.pw_lower.specs.Expressions.{Home, full_name, shape_at, read_target, read, write, further, address_of_global, address_of_local, target_of_local, value_at, value_of_global, value_of_local, stored, copied, scalar_kind, updated, fork, in_result, decides, says, gives, is_void, lower, place, arguments}
 use Rattle.pw_law_refine.specs.Containing.{same, given, times_closed, begun, Spreads}
 
@@ -140,7 +140,7 @@ sum_or-adds o s left right p q c = on_numbers-adds o s p q c
 
 extended-adds : (k : Option ExtKind) (t : ℕ) (c : Code) → Spread c (extended k t c).code none none
 extended-adds None t c = same_code c
-extended-adds (Some k) t c = adds (λ r. op.Ext k r t) c
+extended-adds (Some k) t c = adds (extending k t) c
 
 converted-adds : (from to : Option Kind) (x : Lowered) → Spread x.code (converted from to x).code none none
 converted-adds None to x = same_code x.code

@@ -24,7 +24,8 @@ use Rattle.pw_run_languages.specs.FlowRun.{get_global, put_global, end_from}
 use Rattle.pw_run_languages.specs.Direction.{with_functions}
 use Rattle.pw_run_languages.specs.PlacedRun.{PlacedProgram, Frame, Machine, Step, On, Stopped, Astray, name_of, function_named, with_registers, kept, register_at, value_in, with_temp, gives, takes_result, counted, noted, globals_now, is_eligible, noted_if, loads_global, stores_global, is_reserved, changes, exceeds, library_call, without_scratch, gives_back, calls_library, entered_webs, and_then, enters, enters_webs, leaves, leaves_webs, with_parameters, entered, first_block, begins, calls_defined, jumps, branches, given_back, ends, obeys, does, step, steps}
 use Rattle.pw_law_select_known.specs.Laws.{KeepsShape, WebsKeepShape, WebsNeverStop}
-use Rattle.pw_law_room.proofs.Parts.{calls_by, choose, goes_to, next_by, put_by, reads_by, result_by, returns_by, stored_by, to_block_by}
+use Rattle.pw_law_select_known.proofs.Lists.{choose}
+use Rattle.pw_law_select_known.proofs.Parts.{calls_by, goes_to, next_by, put_by, reads_by, result_by, returns_by, stored_by, to_block_by}
 use Rattle.pw_law_refused.proofs.Stages.{steps_last}
 
 abbrev pub Events : Type 0

@@ -25,7 +25,7 @@ use Rattle.pw_run_languages.specs.PlacedRun.{PlacedProgram, Frame, Machine, Step
 use Rattle.pw_run_languages.specs.Direction.{with_functions}
 use Rattle.pw_law_operations.proofs.Asking.{commands_rest_on_uses}
 use Rattle.pw_law_selection.proofs.Reaching.{value_same}
-use Rattle.pw_law_room.proofs.Parts.{begun_at, calls_by, next_by, reads_by, result_by, returns_by, starts_at_by, starts_by}
+use Rattle.pw_law_select_known.proofs.Parts.{begun_at, calls_by, next_by, reads_by, result_by, returns_by, starts_at_by, starts_by}
 use Rattle.pw_law_layers.specs.Whole.{roomless}
 use Rattle.pw_law_refused.specs.Refused.{IsRefused, behind}
 use Rattle.pw_law_refused.proofs.Stages.{comes_from, steps_last}

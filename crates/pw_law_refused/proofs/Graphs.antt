@@ -30,7 +30,7 @@ use Rattle.pw_law_select_known.specs.Laws.{ActiveCallsAreNoted, WebsKeepShape, W
 use Rattle.pw_law_select_start.proofs.Starting.{found_name}
 use Rattle.pw_law_selection.specs.Following.{IsGiven}
 use Rattle.pw_law_selection.proofs.Reaching.{webs_go}
-use Rattle.pw_law_room.proofs.Parts.{begun_at, starts_at_by, starts_by}
+use Rattle.pw_law_select_known.proofs.Parts.{begun_at, starts_at_by, starts_by}
 use Rattle.pw_law_layers.specs.Whole.{roomless}
 use Rattle.pw_law_refused.specs.Refused.{HasShown, IsRefused, IsRefusedAlike, behind, log_with_call}
 use Rattle.pw_law_refused.proofs.Stages.{next_is, stops_from}

@@ -28,7 +28,7 @@ use Rattle.pw_law_selection.specs.Following.{IsGiven}
 use Rattle.pw_law_selection.proofs.Given.{functions_fine, op_lawful}
 use Rattle.pw_law_selection.proofs.Reaching.{value_same, Enters, call_enters, webs_go}
 use Rattle.pw_law_room.specs.Room.{HadRoom, names_active}
-use Rattle.pw_law_room.proofs.Parts.{calls_by, next_by, reads_by}
+use Rattle.pw_law_select_known.proofs.Parts.{calls_by, next_by, reads_by}
 use Rattle.pw_law_room.proofs.Running.{depth_is}
 use Rattle.pw_law_refused.specs.Refused.{IsRefused, behind}
 

@@ -30,7 +30,8 @@ use Rattle.pw_run_languages.specs.PlacedRun.{PlacedProgram, Frame, Machine, Step
 use Rattle.pw_law_select_known.specs.Laws.{ActiveCallsAreNoted}
 use Rattle.pw_law_room.specs.Room.{HadRoom, names_active}
 use Rattle.pw_law_room.proofs.Names.{Roomy, names_event, room_called, room_event, room_returned}
-use Rattle.pw_law_room.proofs.Parts.{choose, put_by, stored_by, reads_by, loaded_by, calls_by, goes_to, to_block_by, result_by, returns_by, next_by, begun_at, starts_at_by, starts_by}
+use Rattle.pw_law_select_known.proofs.Lists.{choose}
+use Rattle.pw_law_select_known.proofs.Parts.{put_by, stored_by, reads_by, loaded_by, calls_by, goes_to, to_block_by, result_by, returns_by, next_by, begun_at, starts_at_by, starts_by}
 
 module _ (p : Program) (fs : List Located) (none : NoneForLibrary p.frame_of) where
   abbrev full : PlacedProgram

@@ -3,10 +3,10 @@ use Rattle.std.specs.Prelude.{ℕ, ◌≡◌, ◌<◌, ◌≤◌, ◌+◌, ◌-�
 use Rattle.std.specs.List.{AllByRecursion}
 use Rattle.std.proofs.Common.{arith, sym, subst, ◌∙◌, inl, inr}
 use Rattle.pw_tree.specs.FirstTokens.{first_of_expr}
-use Rattle.pw_tree.specs.Trees.{Word, Expr, Stmt, Alternative, Block, Stmts, Label, Decl}
+use Rattle.pw_tree.specs.Trees.{Expr, Stmt, Alternative, Block, Stmts, Label}
 use Rattle.pw_tree.specs.Trees as S
 use Rattle.pw_types.specs.TypeTrees.{CType, type_of}
-use Rattle.pw_types.specs.TypedTrees.{Expression, Node, Initialiser, Statement, Statements, token_of, LocalValue, ModuleValue}
+use Rattle.pw_types.specs.TypedTrees.{Expression, Node, Initialiser, Statement, Statements, token_of}
 use Rattle.pw_types.specs.TypedTrees as T
 use Rattle.pw_types.specs.WellTyped.{type_in}
 use Rattle.pw_check_walk.specs.Walks.{bind}
@@ -15,9 +15,10 @@ use Rattle.pw_check_rules.specs.Modules.{module_in}
 use Rattle.pw_check_rules.specs.Operands.{cast_to, promoted_type}
 use Rattle.pw_check_rules.specs.States.{State, Rule, BodyState, one_deeper, leave_scope, scoped}
 use Rattle.pw_check_rules.specs.Statements as R
-use Rattle.pw_check_rules.specs.Statements.{case_rule, new_label, inside_switch, default_rule, name_label_rule, label_rule, labels_rule, whole_rule, optional_rule, condition_rule, optional_condition, switch_rule, in_switch, in_loop, goto_rule, continue_rule, break_rule, return_rule, stmt_rule, alternative_rule, block_rule, stmts_rule}
+use Rattle.pw_check_rules.specs.Statements.{case_rule, new_label, inside_switch, default_rule, name_label_rule, label_rule, labels_rule, whole_rule, optional_rule, condition_rule, optional_condition, switch_rule, in_switch, in_loop, return_rule, stmt_rule, alternative_rule, block_rule, stmts_rule}
 use Rattle.pw_law_checked.specs.Lawful.{IsLawful, AreWords}
 use Rattle.pw_law_checked.specs.Words.{HasWords, HasWordsIfAny, WordsInStatement, WordsInStatements, WordsInArms, WordsInElse}
+use Rattle.pw_law_checked.proofs.Bare.{Bare, Going, statement_of, bare_post}
 use Rattle.pw_law_checked.proofs.Walking.{Post, post_bind, post_weaken}
 use Rattle.pw_law_checked.proofs.Conversions.{cast_words}
 use Rattle.pw_law_checked.proofs.States.{Fine, FineValue, Runs, goes_on, Grows, grows_trans}
@@ -189,17 +190,9 @@ module _ (scope : ℕ → Type 0) where
 
   -- ---- simple statements
 
-  goto_walked : (s : State) (t : ℕ) (w : Word) → Stands scope s → Post (goto_rule t w s) (Walked s)
-  unfolding goto_rule bind
-  goto_walked s t w x = λ met. (moves_same s x.lawful x.ready, λ words. tt)
-
-  continue_walked : (s : State) (t : ℕ) → Stands scope s → Post (continue_rule t s) (Walked s)
-  unfolding continue_rule bind
-  continue_walked s t x = λ met. (moves_same s x.lawful x.ready, λ words. tt)
-
-  break_walked : (s : State) (t : ℕ) → Stands scope s → Post (break_rule t s) (Walked s)
-  unfolding break_rule bind
-  break_walked s t x = λ met. (moves_same s x.lawful x.ready, λ words. tt)
+  bare_walked : (s : State) → Stands scope s → (b : Bare) → Walked s (statement_of b, s)
+  bare_walked s x (Going t n) = (moves_same s x.lawful x.ready, λ words. tt)
+  bare_walked s x b = (moves_same s x.lawful x.ready, λ words. tt)
 
   return_walked : (s : State) (t : ℕ) (e : Option Expr) → Stands scope s → Post (return_rule t e s) (Walked s)
   unfolding return_rule bind
@@ -293,7 +286,6 @@ mutual
   stmt_walked : (st : Stmt) (s : State) (scope : ℕ → Type 0) → Stands scope s → Post (stmt_rule st s) (Walked scope s)
   stmt_walked (S.Compound b) s scope x = scoped_walked scope s (block_rule b) (block_walked b (one_deeper s) scope (deeper_stands scope s x) (deeper_inner s))
   stmt_walked (S.Expression e) s scope x = evaluate_walked scope s e x
-  stmt_walked (S.Empty t) s scope x = (moves_same s x.lawful x.ready, λ words. tt)
   stmt_walked (S.Labeled ls st) s scope x =
       post_bind _ _ (λ r. Moves s r.1) (Walked scope s) (labels_move scope ls s x.lawful x.ready) (λ r g.
       post_bind _ _ (Walked scope r.1) (Walked scope s) (stmt_walked st r.1 scope (later x g)) (λ u k. (moves_trans g k.0, k.1)))
@@ -324,10 +316,8 @@ mutual
       let a3 = moves_trans a2 g.0 in
       post_bind _ _ (Walked scope q.1) (Walked scope s) (in_loop_walked scope q.1 (stmt_rule st) (later x a3) (λ v o. stmt_walked st v scope o)) (λ r k.
       (moves_trans a3 k.0, λ words. (i.1 words.0, j.1 words.1, g.1 words.2, k.1 words.3))))))
-  stmt_walked (S.Goto t w) s scope x = goto_walked scope s t w x
-  stmt_walked (S.Continue t) s scope x = continue_walked scope s t x
-  stmt_walked (S.Break t) s scope x = break_walked scope s t x
   stmt_walked (S.Return t e) s scope x = return_walked scope s t e x
+  stmt_walked st s scope x = bare_post (Walked scope s) st refl s (bare_walked scope s x)
 
   alternative_walked : (a : Alternative) (s : State) (scope : ℕ → Type 0) → Stands scope s → Post (alternative_rule a s) (WalkedBehind scope s)
   alternative_walked S.NoElse s scope x = (moves_same s x.lawful x.ready, λ words. (tt, tt))

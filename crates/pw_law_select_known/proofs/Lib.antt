@@ -1,5 +1,5 @@
-mod Lists
-mod Parts
+pub mod Lists
+pub mod Parts
 pub mod Values
 pub mod Commands
 pub mod Functions

@@ -2,7 +2,7 @@
 #![tactic(auto)]
 
 ghost use Rattle.std.specs.Prelude.{Ok};
-ghost use Rattle.pw_build_objects.specs.Options.{AreOpts};
+ghost use Rattle.pw_build_opts.specs.Options.{AreOpts};
 ghost use Rattle.pw_store_modules.specs.Modules.{Texts};
 ghost use Rattle.pw_build_opts.specs.declared.opts.Opts.{Opts};
 ghost use Rattle.pw_build_objects.specs.Programs.{Parts};

@@ -40,6 +40,7 @@ use Rattle.pw_run_languages.proofs.Traffic.{follows_alike}
 use Rattle.pw_law_source.specs.Source.{end_of, shown, source_runs, source_stages, staged}
 use Rattle.pw_law_source.specs.Lowering.{MomentKept}
 use Rattle.pw_law_layers.specs.Whole.{LayersKeep, image_of}
+use Rattle.pw_law_layers.proofs.Roomless.{stages_kept}
 use Rattle.pw_law_room.specs.Room.{HadRoom}
 use Rattle.pw_law_room.proofs.Names.{room_alike, room_of_refused, room_to_refused}
 
@@ -136,7 +137,8 @@ machine_notes P Q first second third closed p q d functions objects input l all 
     let machine = image_run q functions v input in
     let words = subst (λ named. Refines (EventInWords q named) places lines) l.linking.named l.selection.runs in
     let down = late_same lines (line_run (placed_program q functions) l.linking.addresses l.linking.scratch input) machine l.placement.runs l.linking.runs in
-    let to_webs = source_to_webs q source (flow_run q input) webs l.lowering l.direction.runs in
+    let low = stages_kept (MomentKept q) p (frame_in v) q.stack input (flow_run q input) l.lowering in
+    let to_webs = source_to_webs q source (flow_run q input) webs low l.direction.runs in
     defined_notes Q closed p (frame_in v) q.stack input (map_of q functions v) (image_start v.memory) defined
     (λ k. noted_down P Q first second third closed q (address_of v) (source k) webs places lines machine l.places.runs words down
     (met_with (Through (MomentKept q) (MomentAlike q)) P calls_alone (source k) webs all (to_webs k))) n

@@ -40,6 +40,7 @@ use Rattle.pw_run_languages.proofs.Late.{late_same}
 use Rattle.pw_law_source.specs.Source.{end_of, shown as view_of, source_progress, source_runs, source_stages, staged, staged_within}
 use Rattle.pw_law_source.specs.Lowering.{MomentKept}
 use Rattle.pw_law_layers.specs.Whole.{InMachine, LayersKeep, RefinementGoesThrough, image_of, roomless}
+use Rattle.pw_law_layers.proofs.Roomless.{stages_kept}
 use Rattle.pw_law_selection.specs.Following.{IsGiven}
 use Rattle.pw_where.specs.Calls.{IsCall}
 use Rattle.pw_law_where.specs.Counting.{AreEntriesOf}
@@ -339,7 +340,7 @@ module _ (laws : LawsBelow) (p : source.Program) (q : Program) (d : List (List �
       both_met n t over more =
           let shown = has_progress p input pause.bound in
           let free_graphs = shows_alike (MomentKept q) (source_progress p (λ f. 0) 0 input pause.bound) shown.view (flow_run (roomless q) input) shown.shown (progress pause.bound) in
-          let graphs = stops_alike (MomentKept q) (stages n) (view_of 0 t) (flow_run q input) over (layers.lowering n) in
+          let graphs = stops_alike (MomentKept q) (stages n) (view_of 0 t) (flow_run q input) over (stages_kept (MomentKept q) p (frame_in (image_of objects q.stack)) q.stack input (flow_run q input) layers.lowering n) in
           let a = alike_lengths (MomentKept q) t.moments graphs.view.log graphs.alike in
           let b = alike_lengths (MomentKept q) shown.view.log free_graphs.view.log free_graphs.alike in
           let c : length shown.view.log ≡ length (noted_within free input pause.bound) = ap (λ (l : List Moment). length l) shown.is in

@@ -32,7 +32,7 @@ use Rattle.pw_run_languages.specs.Programs.{AreBytes, Program, globals_of}
 use Rattle.pw_run_languages.specs.SelectionLaws.{PlacementKeeps, PlacementKeepsRuns, SelectionKeeps, SelectionKeepsRuns}
 use Rattle.pw_run_languages.specs.Standing.{pointer_address}
 use Rattle.pw_run_languages.specs.Traces.{Called, Event, Notes, Standing}
-use Rattle.pw_law_source.specs.Source.{source_stages}
+use Rattle.pw_law_source.specs.Source.{source_progress}
 use Rattle.pw_law_source.specs.Lowering.{MomentKept}
 use Rattle.pw_run_languages.specs.FlowRun.{flow_run}
 use Rattle.pw_law_code.specs.Lawful.{state_of}
@@ -145,7 +145,7 @@ kept_layers fit mapped placement guard selection link p q d functions objects in
     let l = link q d functions objects input program built.names built.database.directives built.serve built.made built.fits bytes in
     let both = between fit mapped placement guard selection p q d functions objects input built bytes l.addresses l.scratch l.lawful in
     record {
-      lowering = subst (λ (F : List ℕ → ℕ). Refines (MomentKept q) (source_stages p F q.stack input) (flow_run q input)) built.frames (built.implements.runs input frames.library bytes);
+      lowering = subst (λ (F : List ℕ → ℕ). Refines (MomentKept q) (source_progress p F q.stack input) (flow_run q input)) built.frames (built.implements.runs input frames.library bytes);
       direction = direction;
       places = places;
       linking = l;

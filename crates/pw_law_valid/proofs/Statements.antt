@@ -1,6 +1,6 @@
 -- Statements make no more objects without a name than they have tokens: those of their expressions and of the declarations of their
 -- blocks.
-use Rattle.std.specs.Prelude.{ℕ, suc, ◌+◌, ◌≤◌, Option, None, Some, List, [], ◌∷◌, length, refl}
+use Rattle.std.specs.Prelude.{ℕ, ◌≡◌, true, suc, ◌+◌, ◌≤◌, Option, None, Some, List, [], ◌∷◌, length, refl}
 use Rattle.std.proofs.Common.{arith}
 use Rattle.pw_tree.specs.Trees.{Word, Expr, Stmt, Alternative, Block, Stmts, Label}
 use Rattle.pw_tree.specs.Trees as S
@@ -13,7 +13,8 @@ use Rattle.pw_check_walk.specs.Walks.{bind}
 use Rattle.pw_check_rules.specs.Kinds.{kind_in}
 use Rattle.pw_types.specs.WellTyped.{type_in}
 use Rattle.pw_check_rules.specs.States.{State, Rule, next_hidden, with_body}
-use Rattle.pw_check_rules.specs.Statements.{enter_switch, new_label, case_rule, inside_switch, default_rule, name_label_rule, label_rule, labels_rule, whole_rule, optional_rule, condition_rule, optional_condition, switch_rule, in_switch, in_loop, goto_rule, continue_rule, break_rule, return_rule, stmt_rule, alternative_rule, block_rule, stmts_rule}
+use Rattle.pw_check_rules.specs.Statements.{enter_switch, new_label, case_rule, inside_switch, default_rule, name_label_rule, label_rule, labels_rule, whole_rule, optional_rule, condition_rule, optional_condition, switch_rule, in_switch, in_loop, return_rule, stmt_rule, alternative_rule, block_rule, stmts_rule}
+use Rattle.pw_law_checked.proofs.Bare.{is_bare, bare_post}
 use Rattle.pw_law_checked.proofs.Walking.{Post}
 use Rattle.pw_law_checked.proofs.Still.{Still, value_still}
 use Rattle.pw_law_checked.proofs.LabelLaws.{asked_post}
@@ -82,17 +83,8 @@ unfolding labels_rule
 labels_spends [] z s = stays (next_hidden s) (length z)
 labels_spends (l ∷ rest) z s = then_spends _ _ _ s _ _ (label_spends l (spell_labels rest z) s) (λ r. then_spends _ _ _ r.1 _ _ (labels_spends rest z r.1) (λ u. stays (next_hidden u.1) (length z)))
 
-goto_same : (t : ℕ) (w : Word) (s : State) → Post (goto_rule t w s) (Same s)
-unfolding goto_rule bind
-goto_same t w s = λ met. refl
-
-continue_same : (t : ℕ) (s : State) → Post (continue_rule t s) (Same s)
-unfolding continue_rule bind
-continue_same t s = λ met. refl
-
-break_same : (t : ℕ) (s : State) → Post (break_rule t s) (Same s)
-unfolding break_rule bind
-break_same t s = λ met. refl
+bare_same : (st : Stmt) → is_bare st ≡ true → (s : State) → Post (stmt_rule st s) (Same s)
+bare_same st is s = bare_post (Same s) st is s (λ b. refl)
 
 return_spends : (t : ℕ) (o : Option Expr) (x : Symbol) (z : List Symbol) (s : State) → Post (return_rule t o s) (Spends (suc (length (spell_optional o (x ∷ z)))) (length z) s)
 unfolding return_rule bind
@@ -141,10 +133,10 @@ mutual
       then_spends _ _ _ x1.1 _ _ (optional_condition_spends t b (Sign m.Semicolon) (spell_optional c (Sign m.CloseParen ∷ spell_stmt st z)) x1.1) (λ x2.
       then_spends _ _ _ x2.1 _ _ (optional_spends c (Sign m.CloseParen) (spell_stmt st z) x2.1) (λ x3.
       then_spends _ _ _ x3.1 _ _ (in_loop_spends _ _ (stmt_rule st) x3.1 (λ u. stmt_spends st z u)) (λ x4. stays (next_hidden x4.1) (length z)))))))
-  stmt_spends (S.Goto t w) z s = token_before _ _ s _ (token_before _ _ s _ (token_before _ _ s _ (same_spends _ s _ (goto_same t w s))))
-  stmt_spends (S.Continue t) z s = token_before _ _ s _ (token_before _ _ s _ (same_spends _ s _ (continue_same t s)))
-  stmt_spends (S.Break t) z s = token_before _ _ s _ (token_before _ _ s _ (same_spends _ s _ (break_same t s)))
+  stmt_spends (S.Goto t w) z s = token_before _ _ s _ (token_before _ _ s _ (token_before _ _ s _ (same_spends _ s _ (bare_same (S.Goto t w) refl s))))
   stmt_spends (S.Return t e) z s = return_spends t e _ z s
+  -- a word and a semicolon
+  stmt_spends st z s = token_before _ _ s _ (token_before _ _ s _ (same_spends _ s _ (bare_same st refl s)))
 
   alternative_spends : (a : Alternative) (z : List Symbol) (s : State) → Post (alternative_rule a s) (Spends (length (spell_alternative a z)) (length z) s)
   alternative_spends S.NoElse z s = stays (next_hidden s) (length z)

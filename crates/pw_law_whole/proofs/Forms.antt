@@ -24,7 +24,7 @@ use Rattle.pw_opt_rules.specs.Optimised as optimised
 use Rattle.pw_law_opt.specs.Sides.{with_modules}
 use Rattle.pw_law_opt.specs.Laws.{AreOptimisedModules, none, also, addresses_in, ShowsNoMore, OptimisationKeepsRuns, OptimisationKeepsRooms, OptimisationKeepsPrograms, OptimisationShowsNoMore}
 use Rattle.pw_cmean.specs.Worlds.{Program}
-use Rattle.pw_law_source.specs.Source.{source_stages, source_progress}
+use Rattle.pw_law_source.specs.Source.{source_progress}
 use Rattle.pw_law_source.specs.Lowering.{MomentKept}
 use Rattle.pw_law_layers.specs.Whole.{HasRoom, HaveRooms, roomless, Implements}
 use Rattle.pw_law_analysis.specs.SummaryLaws.{HaveShapes}
@@ -127,7 +127,7 @@ optimised_implements runs rooms programs p q ns opt is = record {
   program = programs q ns is.program opt;
   runs = λ input none bytes.
       refines_on (MomentKept q) (MomentKept (with_modules q ns)) (kept_moments q (with_modules q ns) (all_globals_stay q.modules ns opt))
-      (source_stages p q.frame_of q.stack input) (flow_run q input) (flow_run (with_modules q ns) input) (is.runs input none bytes) (runs q ns input is.program.modules opt);
+      (source_progress p q.frame_of q.stack input) (flow_run q input) (flow_run (with_modules q ns) input) (is.runs input none bytes) (runs q ns input is.program.modules opt);
   progress = λ input bytes.
       refines_on (MomentKept q) (MomentKept (with_modules q ns)) (kept_moments q (with_modules q ns) (all_globals_stay q.modules ns opt))
       (source_progress p (λ f. 0) 0 input) (flow_run (roomless q) input) (flow_run (roomless (with_modules q ns)) input) (is.progress input bytes) (runs (roomless q) ns input is.program.modules opt);

@@ -1,6 +1,5 @@
 mod Names
 mod Texts
-mod Directions
 mod Objects
 mod Refining
 mod Forms

@@ -17,7 +17,7 @@ use Rattle.pw_phase_two.specs.Phases.{IsObjectOf, all_compiled}
 use Rattle.pw_build_objects.specs.Programs.{DirectivesList, IsObjectFrom, IsModuleFrom, AreObjectsFrom}
 use Rattle.pw_run_languages.specs.Direction.{directives_of, directed_by}
 use Rattle.pw_run_languages.specs.LinkingLaws.{compiled}
-use Rattle.pw_law_whole.proofs.Directions.{entry_in, entries_are}
+use Rattle.pw_run_languages.proofs.Directives.{entry_in, entries_are}
 
 -- ---- code
 

@@ -12,7 +12,7 @@ use Rattle.pw_io.proofs.FileMaps.{keys-order}
 use Rattle.pw_flow.specs.declared.flow.FlowModule.{FlowModule}
 use Rattle.pw_flow.specs.ValidFlow.{IsValid}
 use Rattle.pw_db.specs.Limits.{register_count}
-use Rattle.pw_build_objects.specs.Options.{AreOpts}
+use Rattle.pw_build_opts.specs.Options.{AreOpts}
 use Rattle.pw_db.specs.Database.{IsDatabase, HasDirectives}
 use Rattle.pw_summary.specs.declared.summary.Summary.{Summary}
 use Rattle.pw_summary.specs.Summary.{IsSummary}

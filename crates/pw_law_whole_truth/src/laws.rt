@@ -1,7 +1,7 @@
 //! The law. The function here does nothing: its clause is a fact about all values.
 
 ghost use Rattle.std.specs.Prelude.{ℕ, List, Ok};
-ghost use Rattle.pw_build_objects.specs.Options.{AreOpts};
+ghost use Rattle.pw_build_opts.specs.Options.{AreOpts};
 ghost use Rattle.pw_store_modules.specs.Modules.{Texts};
 ghost use Rattle.pw_build_opts.specs.declared.opts.Opts.{Opts};
 ghost use Rattle.pw_build_objects.specs.Programs.{Parts};

@@ -27,7 +27,7 @@ fn global_room(global: &FlowGlobal) -> u64
     slot_room(global.size)
 }
 
-/// The objects of all modules, in the order of the modules and of their texts.
+/// The objects of the modules.
 pub(crate) fn globals_of<'a>(
     alloc: Global,
     order: &[&'a Object],
@@ -52,7 +52,7 @@ pub(crate) fn count_bytes(globals: &[&FlowGlobal]) -> u64
     count
 }
 
-/// The objects, each at the offset where it stands in the data, one behind the other.
+/// The objects at their offsets.
 #[tactic(auto, using(crate::proofs::Growing::standing_from_push))]
 pub(crate) fn at_offsets<'a>(
     alloc: Global,

@@ -44,7 +44,7 @@ fn add_items(
     Ok(())
 }
 
-/// The items of the data, in the order of the objects that stand there.
+/// The items of the data.
 pub(crate) fn items(
     alloc: Global,
     sites: &Sites,
@@ -59,7 +59,7 @@ pub(crate) fn items(
     Ok(items)
 }
 
-/// The functions and routines of the map, in the order of the text.
+/// The functions and routines of the map.
 pub(crate) fn functions(alloc: Global, text: &[Placed]) -> Result<Items<Function>, AllocError>
     ensures { IfOk result (λ functions. functions ≡ map function_of (map placed_view text.now)) }
 {
@@ -74,7 +74,7 @@ pub(crate) fn functions(alloc: Global, text: &[Placed]) -> Result<Items<Function
     Ok(functions)
 }
 
-/// The global objects of the map, in the order of the data, which begin at `start`.
+/// The global objects of the map.
 pub(crate) fn globals(
     alloc: Global,
     start: u32,

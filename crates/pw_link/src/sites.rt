@@ -37,7 +37,7 @@ fn add<'a>(
     Ok(())
 }
 
-/// Adds the functions and routines with their addresses, each unless its name is there.
+/// Adds the functions and routines.
 pub(crate) fn add_text<'a>(
     names: &mut IndexMap<&'a [u8], u32>,
     text: &[Placed<'a>],

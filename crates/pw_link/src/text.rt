@@ -31,7 +31,7 @@ pub(crate) struct Placed<'a> {
     pub piece: Piece<'a>,
 }
 
-/// The names of the routines, in the order in which they stand behind the functions.
+/// The names of the routines.
 pub(crate) fn routine_names(alloc: Global) -> Result<Vec<Name>, AllocError>
     ensures { IfOk result (λ names. names.items ≡ map (λ r. r.0) routines) }
 {
@@ -77,7 +77,7 @@ fn add_routines<'a>(pieces: &mut Vec<Piece<'a>>, names: &'a [Name]) -> Result<()
     Ok(())
 }
 
-/// The functions of all modules, in the order of the modules and of their texts.
+/// The functions of the modules.
 pub(crate) fn functions_of<'a>(
     alloc: Global,
     order: &[&'a Object],
@@ -116,7 +116,7 @@ pub(crate) fn count_words(pieces: &[Piece]) -> u64
     count
 }
 
-/// The pieces of the text, each at the address where it stands, one behind the other from the text's begin on.
+/// The pieces at their addresses.
 #[tactic(auto, using(crate::proofs::Growing::placed_from_push))]
 pub(crate) fn at_addresses<'a>(
     alloc: Global,

@@ -57,7 +57,7 @@ fn add_words(out: &mut Vec<u32>, sites: &Sites, placed: &Placed) -> Result<(), A
     Ok(())
 }
 
-/// The words of the text, with what the relocations set in them.
+/// The words of the text.
 #[tactic(auto, unfolding(pw_inst::specs::InstructionTable::IsInRange))]
 pub(crate) fn linked_words(
     alloc: Global,

@@ -8,7 +8,7 @@ use pw_object::ObjectFn;
 use pw_value::Name;
 use std::alloc::{AllocError, Global};
 
-/// The names of an object's functions, in order.
+/// The names of functions.
 pub(crate) fn function_names(
     alloc: Global,
     functions: &[ObjectFn],
@@ -22,7 +22,7 @@ pub(crate) fn function_names(
     Ok(names)
 }
 
-/// The names of an object's globals, in order.
+/// The names of global objects.
 pub(crate) fn global_names(alloc: Global, globals: &[FlowGlobal]) -> Result<Items<Name>, AllocError>
     ensures { IfOk result (λ names. names ≡ map (λ g. g.name) globals.now) }
 {

@@ -38,14 +38,14 @@ impl Act {
         }
     }
 
-    /// The temporary that the operation writes, where it writes one.
+    /// The temporary that it writes.
     pub fn defines(&self) -> Option<u32>
         ensures { result ≡ self.now.defines }
     {
         self.defines
     }
 
-    /// The temporaries that the operation reads, each operand by itself.
+    /// The temporaries that it reads.
     pub fn uses(&self) -> &[u32]
         ensures { result.now ≡ self.now.uses }
     {
@@ -106,7 +106,7 @@ impl Stretch {
         self.acts.as_slice()
     }
 
-    /// The temporaries that the end of the block reads.
+    /// The temporaries that its end reads.
     pub fn uses(&self) -> &[u32]
         ensures { result.now ≡ self.now.uses }
     {

@@ -70,8 +70,7 @@ impl Counting {
         most
     }
 
-    /// Counts one more at each point of the spans that has not this mark, and marks it. The answer is the greatest
-    /// count at one of these points; what is said of it is that some point has as many, or more.
+    /// The same at the points of spans.
     pub fn count_spans(&mut self, points: usize, mark: u32, spans: &[(usize, usize)]) -> u32
         requires sized { AreCounts points self.old }
         requires spans { (p : ℕ) → Covers spans.now p → p < points }

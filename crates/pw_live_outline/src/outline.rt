@@ -10,7 +10,7 @@ use pw_live_fronts::{Act, Few, Outline, Stretch};
 use smallvec::SmallVec;
 use std::alloc::{AllocError as NoMemory, Global};
 
-/// A copy of some numbers.
+/// The same numbers, as items.
 pub fn numbers(alloc: Global, numbers: &[u32]) -> Result<Items<u32>, NoMemory>
     ensures { IfOk result (λ v. v ≡ numbers.now) }
 {
@@ -130,7 +130,7 @@ fn stretch(alloc: Global, block: &Block) -> Result<Stretch, NoMemory>
     Ok(Stretch::new(block.depth, acts, uses, next))
 }
 
-/// The outline of a flow graph: what each operation and each end reads and writes, and where blocks go on.
+/// The outline of a flow graph.
 pub fn outline_of(alloc: Global, f: &FlowFn) -> Result<Outline, NoMemory>
     ensures { IfOk result (λ o. o ≡ outline_of f.now) }
 {

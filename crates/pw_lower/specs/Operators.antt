@@ -14,6 +14,7 @@ use Rattle.pw_types.specs.declared.tree.BinaryOperator.{BinaryOperator}
 use Rattle.pw_types.specs.declared.tree.BinaryOperator.TheVariants as binary
 use Rattle.pw_types.specs.declared.tree.StepOperator.{StepOperator}
 use Rattle.pw_types.specs.declared.tree.StepOperator.TheVariants.{IncrementBehind, DecrementBehind}
+use Rattle.pw_flow.specs.declared.flow.Op.{Op}
 use Rattle.pw_flow.specs.declared.flow.Op.TheVariants as op
 use Rattle.pw_flow.specs.declared.flow.UnKind.TheVariants.{Neg, Not}
 use Rattle.pw_flow.specs.declared.flow.BinKind.{BinKind}
@@ -86,9 +87,13 @@ extension U8 U16 = None
 extension U16 U16 = None
 extension from U16 = Some ext.U16
 
+-- the operation that extends a temporary, by where it leaves what it makes
+abbrev pub extending : ExtKind → ℕ → ℕ → Op
+extending k t r = op.Ext k r t
+
 abbrev pub extended : Option ExtKind → ℕ → Code → Lowered
 extended None t c = value_is t c
-extended (Some k) t c = fresh (λ r. op.Ext k r t) c
+extended (Some k) t c = fresh (extending k t) c
 
 -- a scalar of one type as one of another
 abbrev pub converted : Option Kind → Option Kind → Lowered → Lowered

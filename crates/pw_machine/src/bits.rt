@@ -5,7 +5,7 @@ ghost use Rattle.pw_inst.specs.Computing as computing;
 
 use pw_value::words::{signed_at_most, signed_less};
 
-/// Whether the condition of this number holds of two words.
+/// Whether a condition holds of two words.
 #[inline(always)]
 pub(crate) fn condition(c: u8, a: u32, b: u32) -> bool
     ensures { result ≡ computing.condition c a b }

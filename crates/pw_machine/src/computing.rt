@@ -11,7 +11,7 @@ use crate::processor::{Outcome, Processor};
 use pw_inst::Inst;
 
 impl Processor {
-    /// LDO: register `t` becomes the sum of register `b` and `im`.
+    /// LDO.
     #[inline(always)]
     pub(crate) fn load_offset(&mut self, im: i32, b: u8, t: u8) -> Outcome
         requires base { b < 32 }
@@ -21,7 +21,7 @@ impl Processor {
         self.put(t, self.address(b, im))
     }
 
-    /// LDIL: register `t` becomes `im` times 2048.
+    /// LDIL.
     #[inline(always)]
     pub(crate) fn load_left(&mut self, im: u32, t: u8) -> Outcome
         requires small { im < 2097152 }
@@ -31,7 +31,7 @@ impl Processor {
         self.put(t, im * 2048)
     }
 
-    /// AND: register `t` becomes the bits that both registers have.
+    /// AND.
     #[inline(always)]
     pub(crate) fn and(&mut self, r1: u8, r2: u8, t: u8) -> Outcome
         requires first { r1 < 32 }
@@ -42,7 +42,7 @@ impl Processor {
         self.put(t, self.register(r1) & self.register(r2))
     }
 
-    /// OR: register `t` becomes the bits that either register has.
+    /// OR.
     #[inline(always)]
     pub(crate) fn or(&mut self, r1: u8, r2: u8, t: u8) -> Outcome
         requires first { r1 < 32 }
@@ -53,7 +53,7 @@ impl Processor {
         self.put(t, self.register(r1) | self.register(r2))
     }
 
-    /// XOR: register `t` becomes the bits that one of the registers has alone.
+    /// XOR.
     #[inline(always)]
     pub(crate) fn exclusive_or(&mut self, r1: u8, r2: u8, t: u8) -> Outcome
         requires first { r1 < 32 }
@@ -64,7 +64,7 @@ impl Processor {
         self.put(t, self.register(r1) ^ self.register(r2))
     }
 
-    /// SUB: register `t` becomes register `r1` less register `r2`, modulo 2^32.
+    /// SUB.
     #[inline(always)]
     pub(crate) fn subtract(&mut self, r1: u8, r2: u8, t: u8) -> Outcome
         requires first { r1 < 32 }
@@ -75,7 +75,7 @@ impl Processor {
         self.put(t, self.register(r1).wrapping_sub(self.register(r2)))
     }
 
-    /// ADDL: register `t` becomes the sum of the registers, modulo 2^32.
+    /// ADDL.
     #[inline(always)]
     pub(crate) fn add(&mut self, r1: u8, r2: u8, t: u8) -> Outcome
         requires first { r1 < 32 }
@@ -86,7 +86,7 @@ impl Processor {
         self.put(t, self.register(r1).wrapping_add(self.register(r2)))
     }
 
-    /// SUBI: register `t` becomes `im` less register `r`, modulo 2^32.
+    /// SUBI.
     #[inline(always)]
     pub(crate) fn subtract_from(&mut self, im: i32, r: u8, t: u8) -> Outcome
         requires source { r < 32 }
@@ -96,7 +96,7 @@ impl Processor {
         self.put(t, im.cast_unsigned().wrapping_sub(self.register(r)))
     }
 
-    /// EXTRU: register `t` becomes the `len` bits of register `r` that end at bit `p`, extended by zeros.
+    /// EXTRU.
     #[inline(always)]
     pub(crate) fn extract(&mut self, r: u8, p: u8, len: u8, t: u8) -> Outcome
         requires source { r < 32 }
@@ -107,7 +107,7 @@ impl Processor {
         self.put(t, bits::extracted(self.register(r), p, len))
     }
 
-    /// EXTRS: register `t` becomes the `len` bits of register `r` that end at bit `p`, extended by their sign.
+    /// EXTRS.
     #[inline(always)]
     pub(crate) fn extract_signed(&mut self, r: u8, p: u8, len: u8, t: u8) -> Outcome
         requires source { r < 32 }
@@ -118,7 +118,7 @@ impl Processor {
         self.put(t, bits::extracted_signed(self.register(r), p, len))
     }
 
-    /// ZDEP: register `t` becomes the low `len` bits of register `r`, so that they end at bit `p`; all others are 0.
+    /// ZDEP.
     #[inline(always)]
     pub(crate) fn deposit(&mut self, r: u8, p: u8, len: u8, t: u8) -> Outcome
         requires source { r < 32 }
@@ -129,8 +129,7 @@ impl Processor {
         self.put(t, bits::deposited(self.register(r), p, len))
     }
 
-    /// COMCLR: register `t` becomes 0, and the next instruction is nullified where the condition holds, or, with `f`,
-    /// does not.
+    /// COMCLR.
     #[inline(always)]
     pub(crate) fn compare_and_clear(&mut self, c: u8, f: bool, r1: u8, r2: u8, t: u8) -> Outcome
         requires first { r1 < 32 }
@@ -142,7 +141,7 @@ impl Processor {
         self.clear(holds != f, t)
     }
 
-    /// COMBT: a branch where the condition holds.
+    /// COMBT.
     #[inline(always)]
     pub(crate) fn branch_where(&mut self, c: u8, r1: u8, r2: u8, disp: i32) -> Outcome
         requires first { r1 < 32 }
@@ -153,7 +152,7 @@ impl Processor {
         self.branch_if(holds, disp)
     }
 
-    /// COMBF: a branch where the condition does not hold.
+    /// COMBF.
     #[inline(always)]
     pub(crate) fn branch_unless(&mut self, c: u8, r1: u8, r2: u8, disp: i32) -> Outcome
         requires first { r1 < 32 }

@@ -20,13 +20,9 @@ use std::marker::Model;
 /// What a step did to the processor: it went on, or left all as it was and asks for input or output, or ends the run.
 #[derive(Clone, Copy)]
 pub enum Outcome {
-    /// The step is done, and the run goes on.
     Goes,
-    /// The step asks for a byte of the input.
     Reads,
-    /// The step asks for this byte to be written.
     Writes(u8),
-    /// The run stops so.
     Stops(End),
 }
 
@@ -286,7 +282,7 @@ impl Processor {
         self.memory.put_word(a as usize, value);
     }
 
-    /// LDB: register `t` becomes the byte at the sum of register `b` and `im`, or the access halts the run.
+    /// LDB.
     #[inline(always)]
     pub(crate) fn load_byte(&mut self, im: i32, b: u8, t: u8) -> Outcome
         requires base { b < 32 }
@@ -300,7 +296,7 @@ impl Processor {
         self.put(t, self.byte_at(a))
     }
 
-    /// LDH: register `t` becomes the half word at the sum of register `b` and `im`, or the access halts the run.
+    /// LDH.
     #[inline(always)]
     pub(crate) fn load_half(&mut self, im: i32, b: u8, t: u8) -> Outcome
         requires base { b < 32 }
@@ -314,7 +310,7 @@ impl Processor {
         self.put(t, self.half_at(a))
     }
 
-    /// LDW: register `t` becomes the word at the sum of register `b` and `im`, or the access halts the run.
+    /// LDW.
     #[inline(always)]
     pub(crate) fn load_word(&mut self, im: i32, b: u8, t: u8) -> Outcome
         requires base { b < 32 }
@@ -328,8 +324,7 @@ impl Processor {
         self.put(t, self.word_at(a))
     }
 
-    /// STB: the byte at the sum of register `b` and `im` becomes the low byte of register `r`, or the access halts the
-    /// run.
+    /// STB.
     #[inline(always)]
     pub(crate) fn store_byte(&mut self, r: u8, im: i32, b: u8) -> Outcome
         requires source { r < 32 }
@@ -345,8 +340,7 @@ impl Processor {
         Outcome::Goes
     }
 
-    /// STH: the half word at the sum of register `b` and `im` becomes the low half of register `r`, or the access halts
-    /// the run.
+    /// STH.
     #[inline(always)]
     pub(crate) fn store_half(&mut self, r: u8, im: i32, b: u8) -> Outcome
         requires source { r < 32 }
@@ -362,7 +356,7 @@ impl Processor {
         Outcome::Goes
     }
 
-    /// STW: the word at the sum of register `b` and `im` becomes that of register `r`, or the access halts the run.
+    /// STW.
     #[inline(always)]
     pub(crate) fn store_word(&mut self, r: u8, im: i32, b: u8) -> Outcome
         requires source { r < 32 }
@@ -378,7 +372,7 @@ impl Processor {
         Outcome::Goes
     }
 
-    /// MTCTL: the shift amount becomes the low five bits of register `r`.
+    /// MTCTL.
     #[inline(always)]
     pub(crate) fn set_shift(&mut self, r: u8) -> Outcome
         requires { r < 32 }
@@ -389,7 +383,7 @@ impl Processor {
         Outcome::Goes
     }
 
-    /// VSHD: register `t` becomes the low word of the double word of both registers, shifted right by the shift amount.
+    /// VSHD.
     #[inline(always)]
     pub(crate) fn shift_double(&mut self, r1: u8, r2: u8, t: u8) -> Outcome
         requires first { r1 < 32 }
@@ -422,7 +416,7 @@ impl Processor {
         Outcome::Goes
     }
 
-    /// Goes on at the branch's target behind the next instruction where the branch is taken, and else straight on.
+    /// Branches, or goes on.
     #[inline(always)]
     pub(crate) fn branch_if(&mut self, taken: bool, disp: i32) -> Outcome
         ensures { Does (branches_if self.old taken disp) self.old result self.new }
@@ -436,8 +430,7 @@ impl Processor {
         Outcome::Goes
     }
 
-    /// BL: register `t` becomes the address behind the next instruction, where the branch returns to; the target is by
-    /// the displacement.
+    /// BL.
     #[inline(always)]
     pub(crate) fn branch_and_link(&mut self, disp: i32, t: u8, n: bool) -> Outcome
         requires { t < 32 }
@@ -450,7 +443,7 @@ impl Processor {
         Outcome::Goes
     }
 
-    /// BV: a branch to the address in register `b`.
+    /// BV.
     #[inline(always)]
     pub(crate) fn branch_to(&mut self, b: u8, n: bool) -> Outcome
         requires { b < 32 }
@@ -461,7 +454,7 @@ impl Processor {
         Outcome::Goes
     }
 
-    /// BLE: a branch to the address in register `b`; register 31 becomes the address behind the next instruction.
+    /// BLE.
     #[inline(always)]
     pub(crate) fn link_and_branch_to(&mut self, b: u8, n: bool) -> Outcome
         requires { b < 32 }
@@ -474,7 +467,7 @@ impl Processor {
         Outcome::Goes
     }
 
-    /// BREAK: asks for input or output, ends or stops the run, or halts it.
+    /// BREAK.
     #[inline(always)]
     pub(crate) fn ask(&self, im5: u8, im13: u16) -> Outcome
         ensures { Does (breaks self.now im5 im13) self.now result self.now }

@@ -1,24 +1,20 @@
 // The words of the routines.
 
-/// The routine `exit`: `BREAK 0,3`, which ends the run, and the return.
 pub(crate) const EXIT: [u32; 2] = [
     0x0000_6000, // exit 0: BREAK 0,3
     0xE840_C002, // exit 1: BV,n 0(2)
 ];
 
-/// The routine `getchar`: `BREAK 0,1`, which reads a byte, and the return.
 pub(crate) const GETCHAR: [u32; 2] = [
     0x0000_2000, // getchar 0: BREAK 0,1
     0xE840_C002, // getchar 1: BV,n 0(2)
 ];
 
-/// The routine `putchar`: `BREAK 0,2`, which writes a byte, and the return.
 pub(crate) const PUTCHAR: [u32; 2] = [
     0x0000_4000, // putchar 0: BREAK 0,2
     0xE840_C002, // putchar 1: BV,n 0(2)
 ];
 
-/// The routine `$divs`: the quotient of two signed numbers.
 pub(crate) const DIVS: [u32; 41] = [
     0x0B3A_029C, // $divs 0: XOR 26,25,28
     0x081A_5880, // $divs 1: COMCLR,>= 26,0,0
@@ -63,7 +59,6 @@ pub(crate) const DIVS: [u32; 41] = [
     0xEBE0_C002, // $divs 40: BV,n 0(31)
 ];
 
-/// The routine `$divu`: the quotient of two unsigned numbers.
 pub(crate) const DIVU: [u32; 34] = [
     0x8019_20F8, // $divu 0: COMBT,= 25,0,33
     0x0800_025D, // $divu 1: OR 0,0,29
@@ -101,7 +96,6 @@ pub(crate) const DIVU: [u32; 34] = [
     0xEBE0_C002, // $divu 33: BV,n 0(31)
 ];
 
-/// The routine `$mul`: the low 32 bits of a product.
 pub(crate) const MUL: [u32; 138] = [
     0x833A_A010, // $mul 0: COMBT,<<= 26,25,4
     0x081A_0241, // $mul 1: OR 26,0,1
@@ -243,7 +237,6 @@ pub(crate) const MUL: [u32; 138] = [
     0xD35A_1B64, // $mul 137: EXTRU 26,27,28,26
 ];
 
-/// The routine `$rems`: the remainder of two signed numbers.
 pub(crate) const REMS: [u32; 42] = [
     0x081A_025C, // $rems 0: OR 26,0,28
     0x081A_5880, // $rems 1: COMCLR,>= 26,0,0
@@ -289,7 +282,6 @@ pub(crate) const REMS: [u32; 42] = [
     0xEBE0_C002, // $rems 41: BV,n 0(31)
 ];
 
-/// The routine `$remu`: the remainder of two unsigned numbers.
 pub(crate) const REMU: [u32; 35] = [
     0x8019_20F8, // $remu 0: COMBT,= 25,0,33
     0x0800_025D, // $remu 1: OR 0,0,29

@@ -28,13 +28,9 @@ pub struct ObjectFn {
 /// Which symbol follows, in the order of their bytes.
 #[derive(Clone, Copy)]
 pub enum SymbolForm {
-    /// `Symbol::Named`
     Named,
-    /// `Symbol::Word`
     Word,
-    /// `Symbol::StackLimit`
     StackLimit,
-    /// `Symbol::Routine`
     Routine,
 }
 

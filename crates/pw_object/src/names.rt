@@ -50,7 +50,7 @@ pub(crate) fn used_names(alloc: Global, object: &Object) -> Result<Vec<&Name>, A
     Ok(used)
 }
 
-/// The names of functions, in order, without what they hold.
+/// The names of functions alone.
 pub(crate) fn function_names(
     alloc: Global,
     functions: &[ObjectFn],

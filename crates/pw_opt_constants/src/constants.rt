@@ -62,7 +62,7 @@ fn constant_in(op: &Op, known: Flat) -> Option<Op>
     }
 }
 
-/// Rewriting by constants. It holds no places, and a row of nothing known, by which an operation is copied.
+/// The rewriting by constants.
 #[derive(Drop)]
 pub struct Constants {
     nowhere: Places,
@@ -82,7 +82,7 @@ impl Constants {
         Ok(Constants { nowhere, nothing })
     }
 
-    /// A copy of an operation.
+    /// The same operation again.
     pub fn same(&self, alloc: Global, op: &Op) -> Result<Op, NoMemory>
         ensures { IfOk result (λ o. o ≡ op.now) }
     {

@@ -20,7 +20,7 @@ pub enum Place {
     Shared(usize),
 }
 
-/// The places that the temporaries of a function have in rows of what is known.
+/// The places of temporaries.
 #[derive(Drop)]
 pub struct Places {
     /// Of each temporary.
@@ -34,7 +34,7 @@ pub struct Places {
     pub ghost are: { ArePlaces places.items names.items counts.items own },
 }
 
-/// The places that were given to the temporaries so far, in their order.
+/// Places that are given so far.
 #[derive(Drop)]
 pub(crate) struct Given {
     places: Vec<Place>,
@@ -43,7 +43,7 @@ pub(crate) struct Given {
 }
 
 impl Given {
-    /// No places so far, for a function of so many temporaries and blocks.
+    /// None so far, for a function of so many temporaries and blocks.
     fn none(alloc: Global, temps: usize, blocks: usize) -> Result<Given, NoMemory>
         ensures are { IfOk result AreGivenIn }
         ensures places { IfOk result (λ given. given.places.items ≡ []) }
@@ -147,7 +147,7 @@ fn greatest(numbers: &[usize]) -> usize
 }
 
 impl Places {
-    /// The places of a function without temporaries.
+    /// Those of no temporaries.
     pub fn none(alloc: Global) -> Places
         ensures { result.places.items ≡ [] }
     {
@@ -159,7 +159,7 @@ impl Places {
         }
     }
 
-    /// The places of the temporaries of a function.
+    /// Those of the temporaries of a function.
     ///
     /// # Errors
     ///

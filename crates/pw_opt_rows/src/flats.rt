@@ -51,7 +51,7 @@ fn one_below(n: u32, b: Flat) -> bool
     }
 }
 
-/// Whether `a` is `b`, or less than it: bottom is least, and Many above every number.
+/// Whether the first is at or below the second.
 pub(crate) fn flat_below(a: Flat, b: Flat) -> bool
     ensures { IsTrue result ↔ IsBelow a b }
 {

@@ -10,7 +10,7 @@ use std::marker::Model;
 /// The words of a page.
 const PAGE: usize = 1024;
 
-/// The number of bytes of each page of the memory.
+/// The bytes of a page.
 pub const PAGE_BYTES: usize = 4096;
 
 /// A memory: its bytes, from address 0 on.
@@ -41,7 +41,7 @@ fn word_of(page: &[u32; PAGE], i: usize) -> u32
 }
 
 impl Pages {
-    /// A memory of so many pages, of which each byte is 0.
+    /// So many pages of bytes of 0.
     pub fn blank(alloc: Global, pages: usize) -> Result<Pages, AllocError>
         ensures { IfOk result (λ p. p ≡ zeros (4096 * pages)) }
     {

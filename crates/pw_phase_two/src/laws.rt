@@ -9,7 +9,7 @@ ghost use Rattle.pw_phase_two.specs.Phases.{IsObjectOf};
 use pw_db_file::laws::one_list_is_stored;
 use pw_flowfile::laws::flow_graphs_and_files_are_one_to_one;
 
-/// A module has at most one object under given directives.
+/// A module has one object under its directives.
 pub fn a_module_has_one_object()
     ensures { (m : FlowModule) (ds : List (List ℕ × Directives)) (o p : Object) → IsObjectOf m ds o → IsObjectOf m ds p → o ≡ p }
 {

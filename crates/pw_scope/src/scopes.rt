@@ -35,7 +35,7 @@ impl<'a, T> Model for Scopes<'a, T> {
 }
 
 impl<'a, T: Copy> Scopes<'a, T> {
-    /// No names, in the outermost scope.
+    /// No names.
     pub fn new(alloc: Global) -> Self
         ensures { result ≡ [] }
     {

@@ -69,7 +69,7 @@ fn put_long_constant(out: &mut Items<Line>, n: u32, d: u8) -> Result<(), AllocEr
     )
 }
 
-/// Adds the instructions that put a word into register `d`.
+/// A word in a register.
 pub fn put_constant(out: &mut Items<Line>, n: u32, d: u8) -> Result<(), AllocError>
     ensures { OnOk result (out.new ≡ out.old ++ constant n d) }
 {
@@ -127,7 +127,7 @@ fn put_reach(out: &mut Items<Line>, offset: i32) -> Result<(u8, i32), AllocError
     Ok((HELP, 0))
 }
 
-/// Adds the instructions that load a word of the frame into register `r`.
+/// Loads a word of the frame.
 pub fn put_load(out: &mut Items<Line>, offset: i32, r: u8) -> Result<(), AllocError>
     ensures { OnOk result (out.new ≡ out.old ++ load_from offset r) }
 {
@@ -143,7 +143,7 @@ pub fn put_store(out: &mut Items<Line>, offset: i32, r: u8) -> Result<(), AllocE
     put(out, Inst::Stw { r, im, b })
 }
 
-/// Adds the instructions that put the address of a place of the frame into register `d`.
+/// The address of a word of the frame in a register.
 pub fn put_frame_address(out: &mut Items<Line>, offset: i32, d: u8) -> Result<(), AllocError>
     ensures { OnOk result (out.new ≡ out.old ++ frame_address offset d) }
 {
@@ -197,7 +197,7 @@ pub fn result_register(place: Place) -> u8
     }
 }
 
-/// Adds the instructions that bring a result from the result's register to its place, where that is in the frame.
+/// The result goes to its place.
 pub fn put_result(out: &mut Items<Line>, place: Place) -> Result<(), AllocError>
     ensures { OnOk result (out.new ≡ out.old ++ result_lines place) }
 {

@@ -96,7 +96,7 @@ pub(crate) fn function_entries(
     Ok(entries)
 }
 
-/// The names that a module declares, each with its shape, in byte order.
+/// What a module declares.
 pub(crate) fn declared_of(
     alloc: Global,
     declared: &[(Name, Shape)],

@@ -26,10 +26,10 @@ pub const KIND: u32 = 0x5041_5753;
 /// The first version of the form of a summary file, in which no function needs registers.
 pub const FIRST: u32 = 1;
 
-/// The last version of the form of a summary's file.
+/// The last one.
 pub const VERSION: u32 = 2;
 
-/// Each weight of a summary is below this number.
+/// What a weight is below.
 pub const WEIGHT_BOUND: u64 = 4_294_967_296;
 
 /// What a function's need is at most.

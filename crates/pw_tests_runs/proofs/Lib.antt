@@ -25,3 +25,4 @@ mod PremiseRows
 mod WrongRows
 mod LoweringRows
 mod UndefinedRows
+mod RefusedRows

@@ -87,8 +87,8 @@ alike =
 abbrev whole : View source.Moment
 whole = record { output = 50 ∷ []; read = 0; events = 0; log = all_moments }
 
-over : (input : List ℕ) (n : ℕ) → source_stages in_c q.frame_of q.stack input (suc (suc n)) ≡ Over (Ended 2) whole
-unfolding give stop go_on ◌>>=◌ branch wrong look make end_object write next_byte get_char put_char called returned during with_object need undefined told judge objects_now within load store copy fetch put truth outcome_of on_numbers unary_number unary advance advance_elements difference ordered compared on_pointers pointer_and_number number_and_pointer binary convert local_place symbol_place used value_by value_at cast bounded_call take_room library_call call_body call call_value old_value update step answer_of place_of values_of go_forward caught taking_up after_body turn loop meet_loop always value_of condition for_condition drop_value switch_to after_switch with_locals set_local initialise initialise_all meaning items arms behind_arms set_parameters result_of run_body callee calls finish run_main source_stages directed in_words entered_from linked
+over : (input : List ℕ) (n : ℕ) → source_progress in_c q.frame_of q.stack input (suc (suc n)) ≡ Over (Ended 2) whole
+unfolding give stop go_on ◌>>=◌ branch wrong look make end_object write next_byte get_char put_char called returned during with_object need undefined told judge objects_now within load store copy fetch put truth outcome_of on_numbers unary_number unary advance advance_elements difference ordered compared on_pointers pointer_and_number number_and_pointer binary convert local_place symbol_place used value_by value_at cast bounded_call take_room library_call call_body call call_value old_value update step answer_of place_of values_of go_forward caught taking_up after_body turn loop meet_loop always value_of condition for_condition drop_value switch_to after_switch with_locals set_local initialise initialise_all meaning items arms behind_arms set_parameters result_of run_body callee calls finish run_main source_progress directed in_words entered_from linked
 over input zero = refl
 over input (suc n) = refl
 
@@ -102,8 +102,8 @@ over_too input = record {
   counted = omega arith;
 }
 
-meets : (input : List ℕ) (n : ℕ) → Met (MomentKept q) (source_stages in_c q.frame_of q.stack input n) (flow_run q input)
-unfolding give stop go_on ◌>>=◌ branch wrong look make end_object write next_byte get_char put_char called returned during with_object need undefined told judge objects_now within load store copy fetch put truth outcome_of on_numbers unary_number unary advance advance_elements difference ordered compared on_pointers pointer_and_number number_and_pointer binary convert local_place symbol_place used value_by value_at cast bounded_call take_room library_call call_body call call_value old_value update step answer_of place_of values_of go_forward caught taking_up after_body turn loop meet_loop always value_of condition for_condition drop_value switch_to after_switch with_locals set_local initialise initialise_all meaning items arms behind_arms set_parameters result_of run_body callee calls finish run_main source_stages command flow.step flow.steps flow_run directed in_words entered_from selected entered_lines placed laid linked
+meets : (input : List ℕ) (n : ℕ) → Met (MomentKept q) (source_progress in_c q.frame_of q.stack input n) (flow_run q input)
+unfolding give stop go_on ◌>>=◌ branch wrong look make end_object write next_byte get_char put_char called returned during with_object need undefined told judge objects_now within load store copy fetch put truth outcome_of on_numbers unary_number unary advance advance_elements difference ordered compared on_pointers pointer_and_number number_and_pointer binary convert local_place symbol_place used value_by value_at cast bounded_call take_room library_call call_body call call_value old_value update step answer_of place_of values_of go_forward caught taking_up after_body turn loop meet_loop always value_of condition for_condition drop_value switch_to after_switch with_locals set_local initialise initialise_all meaning items arms behind_arms set_parameters result_of run_body callee calls finish run_main source_progress command flow.step flow.steps flow_run directed in_words entered_from selected entered_lines placed laid linked
 meets input zero = record {
   at = 0;
   view = record { output = []; read = 0; events = 0; log = [] };

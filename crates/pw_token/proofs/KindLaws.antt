@@ -63,7 +63,7 @@ word-opens (b ∷ s) h = nondigit b h.0
 digit-facts : (b : ℕ) → is_in class.Digit b ≡ true → (eqb b 76 ≡ false) × (is_nondigit b ≡ false) × ((not (is_blank b) && not (eqb b 92)) ≡ true)
 digit-facts b h = (grind (arith, nat_tests), grind (arith, nat_tests), grind (arith, nat_tests))
 
-integer-first : (s : List ℕ) → IsInteger s → is_in class.Digit (slice_index s 0) ≡ true
+pub integer-first : (s : List ℕ) → IsInteger s → is_in class.Digit (slice_index s 0) ≡ true
 integer-first s h = subst (λ x. is_in class.Digit (slice_index x 0) ≡ true) (sym h.whole) (kinds h.digits h.suffix h.constant)
   where
     decimal : (digits suffix : List ℕ) → IsDecimal digits → is_in class.Digit (slice_index (digits ++ suffix) 0) ≡ true
@@ -86,7 +86,7 @@ integer-kind s h =
 abbrev StartsNumeral : List ℕ → Type 0
 StartsNumeral s = (is_in class.Digit (slice_index s 0) ≡ true) ⊎ ((slice_index s 0 ≡ 46) × (is_in class.Digit (slice_index s 1) ≡ true))
 
-floating-first : (s : List ℕ) → IsFloating s → StartsNumeral s
+pub floating-first : (s : List ℕ) → IsFloating s → StartsNumeral s
 floating-first s h = subst StartsNumeral (sym h.whole) (scaled h.mantissa (h.exponent ++ h.suffix) h.constant)
   where
     fractional : (before behind r : List ℕ) → AllIn class.Digit before → AllIn class.Digit behind → before ++ behind ≢ [] → StartsNumeral ((before ++ 46 ∷ behind) ++ r)
@@ -152,7 +152,7 @@ mark-test : (s : List ℕ) → is_mark s ≡ true → mark_test s ≡ true
 unfolding is_mark
 mark-test s h = any-all mark_test s marks h marks-test
 
-not-true : (b : Bool) → not b ≡ true → b ≡ false
+pub not-true : (b : Bool) → not b ≡ true → b ≡ false
 not-true true h = cc
 not-true false h = refl
 

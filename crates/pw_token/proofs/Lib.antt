@@ -15,3 +15,4 @@ pub mod WordLaws
 pub mod LevelLaws
 pub mod TokenBounds
 pub mod NestLaws
+pub mod FirstLaws

@@ -1,7 +1,7 @@
 -- Words, keywords and marks at the beginning of a text.
-use Rattle.std.proofs.Common.{◌≡◌, ℕ, suc, ◌<◌, ◌≤◌, ◌⊎◌, inl, inr, Bool, true, false, cond, ◌&&◌, ◌||◌, nat_lt, nat_eq, List, [], ◌∷◌, ◌++◌, length, take, drop, refl, ap, arith, sym, ◌∙◌, subst, bytes_eq, map, is_some, Some, if◌then◌else◌}
+use Rattle.std.proofs.Common.{◌≡◌, ℕ, suc, ◌<◌, ◌≤◌, ◌⊎◌, inl, inr, Bool, true, false, cond, ◌&&◌, ◌||◌, nat_lt, nat_eq, List, [], ◌∷◌, ◌++◌, length, take, drop, slice_index, eqb, refl, ap, arith, sym, ◌∙◌, subst, bytes_eq, codes, map, is_some, Some, if◌then◌else◌}
 use Rattle.std.specs.List.{list_any, list_all, starts_with}
-use Rattle.std.proofs.lemmas.Bool.{ltb-true, ltb-false}
+use Rattle.std.proofs.lemmas.Bool.{eqb-false, ltb-true, ltb-false}
 use Rattle.std.proofs.lemmas.List.{take_at, take-append-drop}
 use Rattle.std.proofs.lemmas.Slice.Eq.{bytes_eq-Decides}
 use Rattle.pw_token.proofs.Runs.{Begins, run-front, run-in, run-reaches, either}
@@ -9,7 +9,7 @@ use Rattle.pw_token.proofs.ByteFacts.{and-split, or-split}
 use Rattle.pw_token.specs.Bytes.{is_in, is_nondigit, AllIn}
 use Rattle.pw_token.specs.Scanning.{run, word_len, longest_in}
 use Rattle.pw_token.specs.Spelling.{IsWord}
-use Rattle.pw_token.specs.Words.{is_keyword, is_mark, keywords, marks, with_text}
+use Rattle.pw_token.specs.Words.{is_keyword, is_mark, keywords, marks, starting_with, with_text}
 use Rattle.pw_token.specs.declared.bytes.Class.TheVariants as class
 
 -- ---- words
@@ -80,6 +80,27 @@ found_among text (x ∷ xs) s = by (bytes_eq s (text x)) (found_among text xs s)
     by true h = refl
     by false h = h
 
+first-differs : (s m : List ℕ) → eqb (slice_index s 0) (slice_index m 0) ≡ false → bytes_eq s m ≡ false
+first-differs s m n =
+    elim (either (bytes_eq s m)) [
+      | inl e ↦ absurd (eqb-false (slice_index s 0) (slice_index m 0) n (ap (λ x. slice_index x 0) ((bytes_eq-Decides s m).0 e)))
+      | inr e ↦ e
+    ]
+
+-- what is found stands among those that begin with the same byte
+pub found_starting : {A : Type 0} (text : A → List ℕ) (xs : List A) (s : List ℕ) → with_text text (starting_with text (slice_index s 0) xs) s ≡ with_text text xs s
+found_starting text [] s = refl
+found_starting text (x ∷ xs) s = by (found_starting text xs s)
+  where
+    by : with_text text (starting_with text (slice_index s 0) xs) s ≡ with_text text xs s
+        → with_text text (starting_with text (slice_index s 0) (x ∷ xs)) s ≡ with_text text (x ∷ xs) s
+    by more =
+        let rest = starting_with text (slice_index s 0) xs in
+        elim (either (eqb (slice_index s 0) (slice_index (text x) 0))) [
+          | inl h ↦ ap (λ b. with_text text (cond b (x ∷ rest) rest) s) h ∙ ap (λ r. cond (bytes_eq s (text x)) (Some x) r) more
+          | inr n ↦ ap (λ b. with_text text (cond b (x ∷ rest) rest) s) n ∙ more ∙ sym (ap (λ b. cond b (Some x) (with_text text xs s)) (first-differs s (text x) n))
+        ]
+
 -- ---- the longest of a table
 
 pub longest_append : (best : ℕ) (xs ys : List (List ℕ)) (t : List ℕ) → longest_in best (xs ++ ys) t ≡ longest_in (longest_in best xs t) ys t
@@ -122,6 +143,41 @@ longest-reaches (m ∷ ms) best s t r h e =
           omega (arith, ap length same, better-reaches best m t (word-begins t m r (e ∙ ap (λ x. x ++ r) same)), longest-least ms (better best m t) t)
       | inr k ↦ longest-reaches ms (better best m t) s t r k e
     ]
+
+pub first-of : (m r : List ℕ) → 0 < length m → slice_index (m ++ r) 0 ≡ slice_index m 0
+first-of [] r l = absurd (omega arith)
+first-of (b ∷ m) r l = refl
+
+-- a word that begins with another byte is no better
+no-better : (best : ℕ) (m t : List ℕ) → eqb (slice_index t 0) (slice_index m 0) ≡ false → better best m t ≡ best
+no-better best m t n =
+    elim (either (starts_with nat_eq t m && nat_lt best (length m))) [
+      | inl h ↦
+          let both = and-split (starts_with nat_eq t m) (nat_lt best (length m)) h in
+          let some : 0 < length m = omega (arith, ltb-true best (length m) both.1) in
+          absurd (eqb-false (slice_index t 0) (slice_index m 0) n (ap (λ x. slice_index x 0) (begins-word t m both.0) ∙ first-of m (drop (length m) t) some))
+      | inr e ↦ rw e refl
+    ]
+
+-- the longest stands among those that begin with the same byte
+pub longest_starting : {A : Type 0} (text : A → List ℕ) (xs : List A) (best : ℕ) (t : List ℕ) → longest_in best (map text (starting_with text (slice_index t 0) xs)) t ≡ longest_in best (map text xs) t
+longest_starting text [] best t = refl
+longest_starting text (x ∷ xs) best t = by (longest_starting text xs (better best (text x) t) t) (longest_starting text xs best t)
+  where
+    by : longest_in (better best (text x) t) (map text (starting_with text (slice_index t 0) xs)) t ≡ longest_in (better best (text x) t) (map text xs) t
+        → longest_in best (map text (starting_with text (slice_index t 0) xs)) t ≡ longest_in best (map text xs) t
+        → longest_in best (map text (starting_with text (slice_index t 0) (x ∷ xs))) t ≡ longest_in best (map text (x ∷ xs)) t
+    by taken left =
+        let rest = starting_with text (slice_index t 0) xs in
+        elim (either (eqb (slice_index t 0) (slice_index (text x) 0))) [
+          | inl h ↦ ap (λ b. longest_in best (map text (cond b (x ∷ rest) rest)) t) h ∙ taken
+          | inr n ↦ ap (λ b. longest_in best (map text (cond b (x ∷ rest) rest)) t) n ∙ left ∙ sym (ap (λ b. longest_in b (map text xs) t) (no-better best (text x) t n))
+        ]
+
+-- no text but one that begins with `#` begins with a mark of directives
+pub longest_hash : (best : ℕ) (t : List ℕ) → eqb (slice_index t 0) 35 ≡ false → longest_in best (codes "#" ∷ codes "##" ∷ []) t ≡ best
+longest_hash best t n =
+    ap (λ b. longest_in b (codes "##" ∷ []) t) (no-better best (codes "#") t n) ∙ no-better best (codes "##") t n
 
 -- the best so far, or a word of the table
 record Longest (best : ℕ) (table : List (List ℕ)) (t : List ℕ) : Type 0 where

@@ -1,6 +1,6 @@
 -- The keywords and the marks of C90, each with its spelling.
-use Rattle.std.specs.Prelude.{ℕ, Bool, if◌then◌else◌, List, [], ◌∷◌, ◌++◌, map, codes, bytes_eq, Option, Some, None}
-use Rattle.std.specs.List.{list_any}
+use Rattle.std.specs.Prelude.{ℕ, Bool, if◌then◌else◌, List, [], ◌∷◌, ◌++◌, map, codes, bytes_eq, Option, Some, None, slice_index, ◌==◌}
+use Rattle.std.specs.List.{list_any, filter}
 use Rattle.pw_token.specs.declared.symbol.Keyword.{Keyword}
 use Rattle.pw_token.specs.declared.symbol.Keyword.TheVariants as k
 use Rattle.pw_token.specs.declared.symbol.Mark.{Mark}
@@ -109,6 +109,10 @@ all_marks =
 abbrev pub with_text : {A : Type 0} → (A → List ℕ) → List A → List ℕ → Option A
 with_text text [] s = None
 with_text text (a ∷ rest) s = if bytes_eq s (text a) then Some a else with_text text rest s
+
+-- those of a list whose bytes begin with a byte
+abbrev pub starting_with : {A : Type 0} → (A → List ℕ) → ℕ → List A → List A
+starting_with text first = filter (λ a. first == slice_index (text a) 0)
 
 unfoldable pub keyword_of : List ℕ → Option Keyword
 keyword_of = with_text keyword_text all_keywords

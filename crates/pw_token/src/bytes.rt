@@ -9,11 +9,8 @@ ghost use Rattle.pw_token.specs.Bytes as spec;
 pub enum Class {
     /// A blank within a line: space, tab, vertical tab, form feed, carriage return.
     Gap,
-    /// `0` to `9`.
     Digit,
-    /// `0` to `7`.
     OctalDigit,
-    /// `0` to `9`, `a` to `f` and `A` to `F`.
     HexDigit,
     /// A letter, a digit or an underscore.
     Word,
@@ -35,7 +32,7 @@ pub fn is_in(class: Class, byte: u8) -> bool
     }
 }
 
-/// Whether a byte is a letter or an underscore (C90 6.1.2).
+/// A letter or an underscore.
 pub fn is_nondigit(byte: u8) -> bool
     ensures { result ≡ spec.is_nondigit byte }
 {

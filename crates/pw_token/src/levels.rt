@@ -12,9 +12,7 @@ pub enum Opener {
     Text,
     /// `(`, `[` or `{`.
     Bracket,
-    /// A `?` that waits for its `:`.
     Question,
-    /// A `do` that waits for its `while`.
     Do,
 }
 

@@ -13,7 +13,7 @@ use std::alloc::Global;
 /// The greatest length of a text, in bytes.
 pub const TEXT_LIMIT: usize = 1_048_576;
 
-/// The most tokens that a text may have.
+/// The greatest count of tokens.
 pub const TOKEN_LIMIT: usize = 200_000;
 
 fn line_start_after(line_start: bool, kind: PieceKind, text: &[u8]) -> bool

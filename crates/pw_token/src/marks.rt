@@ -4,7 +4,8 @@ ghost use Rattle.std.specs.Prelude.{◌≡◌, ◌≤◌, ◌∷◌, [], length,
 ghost use Rattle.pw_token.specs.Scanning.{longest_in};
 ghost use Rattle.pw_token.specs.Words.{all_marks, is_keyword, mark_text, marks};
 
-use crate::symbol::{Keyword, MARKS};
+use crate::bytes::byte_at;
+use crate::symbol::{Keyword, marks_from};
 
 /// Whether a word is a keyword (C90 6.1.1).
 pub fn is_keyword(word: &[u8]) -> bool
@@ -32,7 +33,7 @@ fn longest_mark(text: &[u8]) -> usize
     ensures within { result ≤ length text.now }
 {
     let mut longest = 0;
-    let mut rest = MARKS.as_slice();
+    let mut rest = marks_from(byte_at(text, 0));
     while let [mark, after @ ..] = rest {
         longest = longer(longest, mark.text(), text);
         rest = after;
@@ -41,10 +42,14 @@ fn longest_mark(text: &[u8]) -> usize
 }
 
 /// The length of the longest operator or punctuator that begins the text, `#` and `##` among them, 0 where none does.
-#[tactic(auto, using(crate::proofs::WordLaws::longest_append))]
 pub fn mark_len(text: &[u8]) -> usize
     ensures value { result ≡ longest_in 0 marks text.now }
     ensures within { result ≤ length text.now }
 {
-    longer(longer(longest_mark(text), b"#", text), b"##", text)
+    let longest = longest_mark(text);
+    if byte_at(text, 0) == b'#' {
+        longer(longer(longest, b"#", text), b"##", text)
+    } else {
+        longest
+    }
 }

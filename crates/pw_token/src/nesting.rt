@@ -198,8 +198,8 @@ pub fn nest_fault(text: &[u8], tokens: &[Token]) -> Option<usize>
     let mut levels = Levels::new();
     let mut before = Role::Other;
     let mut operand = false;
+    let mut role = role_at(text, tokens, 0);
     for index in 0..tokens.len() {
-        let role = role_at(text, tokens, index);
         let next = role_at(text, tokens, index + 1);
         let nest = step(&mut levels, role, next, before, operand);
         if NEST_LIMIT < nest {
@@ -207,6 +207,7 @@ pub fn nest_fault(text: &[u8], tokens: &[Token]) -> Option<usize>
         }
         operand = operand_after(role, operand);
         before = role;
+        role = next;
     }
     None
 }

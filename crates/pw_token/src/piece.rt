@@ -1,11 +1,13 @@
 //! The piece at the beginning of a text: a blank, a comment, a line marker or a token.
 
-ghost use Rattle.std.specs.Prelude.{◌≡◌, ◌<◌, ◌≤◌, ◌↔◌, ℕ, Some, IfSome, length};
+ghost use Rattle.std.specs.Prelude.{◌≡◌, ◌<◌, ◌≤◌, ◌↔◌, ℕ, Some, IfSome, false, length, slice_index};
+ghost use Rattle.pw_token.specs.Bytes.{is_in, is_nondigit};
+ghost use Rattle.pw_token.specs.declared.bytes.Class.TheVariants.{Digit};
 ghost use Rattle.pw_token.specs.Pieces as spec;
 ghost use Rattle.pw_token.specs.Tokenization.{BeginsWith};
 ghost use Rattle.pw_token.specs.declared.piece.PieceKind.{PieceKind};
 
-use crate::bytes::{Class, byte_at, is_in, run_of, text_from};
+use crate::bytes::{Class, byte_at, is_in, is_nondigit, run_of, text_from};
 use crate::constants::{floating_len, integer_len, word_len};
 use crate::literals::{comment_len, is_splice, literal_len, wide_len};
 use crate::marks::{is_keyword, mark_len};
@@ -45,22 +47,47 @@ fn word_at(text: &[u8]) -> Found
     (kind, len)
 }
 
-#[tactic(auto, unfolding(crate::specs::Pieces::longest_at))]
+/// A kind with no length, where no token stands.
+const NOTHING: Found = (TokenKind::Identifier, 0);
+
+/// The longest token that begins with this byte, which is no letter, no underscore and no digit.
+fn other_at(first: u8, text: &[u8]) -> Found
+    requires first { first ≡ slice_index text.now 0 }
+    requires no_letter { is_nondigit first ≡ false }
+    requires no_digit { is_in Digit first ≡ false }
+    ensures value { result ≡ spec.longest_at text.now }
+    ensures within { result.1 ≤ length text.now }
+{
+    match first {
+        b'.' => {
+            let floating = longer(NOTHING, (TokenKind::Floating, floating_len(text)));
+            longer(floating, (TokenKind::Mark, mark_len(text)))
+        }
+        b'\'' => longer(NOTHING, (TokenKind::Character, literal_len(b'\'', text))),
+        b'"' => longer(NOTHING, (TokenKind::Text, literal_len(b'"', text))),
+        _ => longer(NOTHING, (TokenKind::Mark, mark_len(text))),
+    }
+}
+
+/// The longest token, of the kinds that begin with the first byte.
 fn longest_at(text: &[u8]) -> Found
     ensures value { result ≡ spec.longest_at text.now }
     ensures within { result.1 ≤ length text.now }
 {
-    let word = longer(word_at(text), (TokenKind::Number, integer_len(text)));
-    let floating = (TokenKind::Floating, floating_len(text));
-    let constant = longer(floating, (TokenKind::Character, literal_len(b'\'', text)));
-    let literal = longer(
-        (TokenKind::Text, literal_len(b'"', text)),
-        (TokenKind::Wide, wide_len(text)),
-    );
-    longer(
-        longer(word, constant),
-        longer(literal, (TokenKind::Mark, mark_len(text))),
-    )
+    let first = byte_at(text, 0);
+    if is_nondigit(first) {
+        let word = word_at(text);
+        if first == b'L' {
+            longer(word, (TokenKind::Wide, wide_len(text)))
+        } else {
+            word
+        }
+    } else if is_in(Class::Digit, first) {
+        let number = longer(NOTHING, (TokenKind::Number, integer_len(text)));
+        longer(number, (TokenKind::Floating, floating_len(text)))
+    } else {
+        other_at(first, text)
+    }
 }
 
 fn found_piece(kind: PieceKind, len: usize) -> Option<(PieceKind, usize)>

@@ -12,19 +12,13 @@ use crate::token::{Token, TokenKind};
 pub enum Role {
     /// An identifier, a constant or a string.
     Operand,
-    /// `(`.
     OpenParen,
     /// `[` or `{`.
     Open,
-    /// `?`.
     Question,
-    /// `:`.
     Colon,
-    /// `)`.
     CloseParen,
-    /// `]`.
     CloseBracket,
-    /// `}`.
     CloseBrace,
     /// `++` or `--`.
     Step,
@@ -32,19 +26,13 @@ pub enum Role {
     Unary,
     /// `=` or a compound assignment operator.
     Assignment,
-    /// `if`.
     If,
-    /// `else`.
     Else,
     /// `for` or `switch`.
     Loop,
-    /// `while`.
     While,
-    /// `do`.
     Do,
-    /// `,`.
     Comma,
-    /// `;`.
     Semicolon,
     /// Any other token, and the end of the text.
     Other,

@@ -3,72 +3,42 @@
 ghost use Rattle.std.specs.Prelude.{◌≡◌};
 ghost use Rattle.pw_token.specs.Words as spec;
 
+use crate::bytes::byte_at;
+
 /// A keyword (C90 6.1.1).
 #[derive(Clone, Copy, PartialEq, Eq)]
 pub enum Keyword {
-    /// `auto`
     Auto,
-    /// `break`
     Break,
-    /// `case`
     Case,
-    /// `char`
     Char,
-    /// `const`
     Const,
-    /// `continue`
     Continue,
-    /// `default`
     Default,
-    /// `do`
     Do,
-    /// `double`
     Double,
-    /// `else`
     Else,
-    /// `enum`
     Enum,
-    /// `extern`
     Extern,
-    /// `float`
     Float,
-    /// `for`
     For,
-    /// `goto`
     Goto,
-    /// `if`
     If,
-    /// `int`
     Int,
-    /// `long`
     Long,
-    /// `register`
     Register,
-    /// `return`
     Return,
-    /// `short`
     Short,
-    /// `signed`
     Signed,
-    /// `sizeof`
     Sizeof,
-    /// `static`
     Static,
-    /// `struct`
     Struct,
-    /// `switch`
     Switch,
-    /// `typedef`
     Typedef,
-    /// `union`
     Union,
-    /// `unsigned`
     Unsigned,
-    /// `void`
     Void,
-    /// `volatile`
     Volatile,
-    /// `while`
     While,
 }
 
@@ -169,41 +139,41 @@ pub enum Mark {
     Ellipsis,
 }
 
-/// The keywords.
-const KEYWORDS: [Keyword; 32] = [
-    Keyword::Auto,
-    Keyword::Break,
-    Keyword::Case,
-    Keyword::Char,
-    Keyword::Const,
-    Keyword::Continue,
-    Keyword::Default,
-    Keyword::Do,
-    Keyword::Double,
-    Keyword::Else,
-    Keyword::Enum,
-    Keyword::Extern,
-    Keyword::Float,
-    Keyword::For,
-    Keyword::Goto,
-    Keyword::If,
-    Keyword::Int,
-    Keyword::Long,
-    Keyword::Register,
-    Keyword::Return,
-    Keyword::Short,
-    Keyword::Signed,
-    Keyword::Sizeof,
-    Keyword::Static,
-    Keyword::Struct,
-    Keyword::Switch,
-    Keyword::Typedef,
-    Keyword::Union,
-    Keyword::Unsigned,
-    Keyword::Void,
-    Keyword::Volatile,
-    Keyword::While,
-];
+/// The keywords that begin with a byte.
+fn keywords_from(first: u8) -> &'static [Keyword]
+    ensures { result.now ≡ spec.starting_with spec.keyword_text first spec.all_keywords }
+{
+    match first {
+        b'a' => &[Keyword::Auto],
+        b'b' => &[Keyword::Break],
+        b'c' => &[
+            Keyword::Case,
+            Keyword::Char,
+            Keyword::Const,
+            Keyword::Continue,
+        ],
+        b'd' => &[Keyword::Default, Keyword::Do, Keyword::Double],
+        b'e' => &[Keyword::Else, Keyword::Enum, Keyword::Extern],
+        b'f' => &[Keyword::Float, Keyword::For],
+        b'g' => &[Keyword::Goto],
+        b'i' => &[Keyword::If, Keyword::Int],
+        b'l' => &[Keyword::Long],
+        b'r' => &[Keyword::Register, Keyword::Return],
+        b's' => &[
+            Keyword::Short,
+            Keyword::Signed,
+            Keyword::Sizeof,
+            Keyword::Static,
+            Keyword::Struct,
+            Keyword::Switch,
+        ],
+        b't' => &[Keyword::Typedef],
+        b'u' => &[Keyword::Union, Keyword::Unsigned],
+        b'v' => &[Keyword::Void, Keyword::Volatile],
+        b'w' => &[Keyword::While],
+        _ => &[],
+    }
+}
 
 impl Keyword {
     /// How the keyword is spelled (C90 6.1.1), in ASCII.
@@ -246,12 +216,12 @@ impl Keyword {
         }
     }
 
-    /// The one that is spelled with these bytes, where there is one.
+    /// The one with these bytes.
     #[tactic(auto, unfolding(crate::specs::Words::keyword_of))]
     pub fn with_text(text: &[u8]) -> Option<Keyword>
         ensures { result ≡ spec.keyword_of text.now }
     {
-        let mut rest = KEYWORDS.as_slice();
+        let mut rest = keywords_from(byte_at(text, 0));
         while let [first, after @ ..] = rest {
             if text == first.text() {
                 return Some(*first);
@@ -262,55 +232,48 @@ impl Keyword {
     }
 }
 
-/// All marks, in the order of their type.
-pub const MARKS: [Mark; 46] = [
-    Mark::OpenBracket,
-    Mark::CloseBracket,
-    Mark::OpenParen,
-    Mark::CloseParen,
-    Mark::Dot,
-    Mark::Arrow,
-    Mark::Increment,
-    Mark::Decrement,
-    Mark::Ampersand,
-    Mark::Star,
-    Mark::Plus,
-    Mark::Minus,
-    Mark::Tilde,
-    Mark::Exclamation,
-    Mark::Slash,
-    Mark::Percent,
-    Mark::LeftShift,
-    Mark::RightShift,
-    Mark::Less,
-    Mark::Greater,
-    Mark::LessEqual,
-    Mark::GreaterEqual,
-    Mark::EqualEqual,
-    Mark::NotEqual,
-    Mark::Caret,
-    Mark::Bar,
-    Mark::AndAnd,
-    Mark::BarBar,
-    Mark::Question,
-    Mark::Colon,
-    Mark::Equal,
-    Mark::StarEqual,
-    Mark::SlashEqual,
-    Mark::PercentEqual,
-    Mark::PlusEqual,
-    Mark::MinusEqual,
-    Mark::LeftShiftEqual,
-    Mark::RightShiftEqual,
-    Mark::AmpersandEqual,
-    Mark::CaretEqual,
-    Mark::BarEqual,
-    Mark::Comma,
-    Mark::OpenBrace,
-    Mark::CloseBrace,
-    Mark::Semicolon,
-    Mark::Ellipsis,
-];
+/// The marks that begin with a byte.
+pub fn marks_from(first: u8) -> &'static [Mark]
+    ensures { result.now ≡ spec.starting_with spec.mark_text first spec.all_marks }
+{
+    match first {
+        b'[' => &[Mark::OpenBracket],
+        b']' => &[Mark::CloseBracket],
+        b'(' => &[Mark::OpenParen],
+        b')' => &[Mark::CloseParen],
+        b'.' => &[Mark::Dot, Mark::Ellipsis],
+        b'-' => &[Mark::Arrow, Mark::Decrement, Mark::Minus, Mark::MinusEqual],
+        b'+' => &[Mark::Increment, Mark::Plus, Mark::PlusEqual],
+        b'&' => &[Mark::Ampersand, Mark::AndAnd, Mark::AmpersandEqual],
+        b'*' => &[Mark::Star, Mark::StarEqual],
+        b'~' => &[Mark::Tilde],
+        b'!' => &[Mark::Exclamation, Mark::NotEqual],
+        b'/' => &[Mark::Slash, Mark::SlashEqual],
+        b'%' => &[Mark::Percent, Mark::PercentEqual],
+        b'<' => &[
+            Mark::LeftShift,
+            Mark::Less,
+            Mark::LessEqual,
+            Mark::LeftShiftEqual,
+        ],
+        b'>' => &[
+            Mark::RightShift,
+            Mark::Greater,
+            Mark::GreaterEqual,
+            Mark::RightShiftEqual,
+        ],
+        b'=' => &[Mark::EqualEqual, Mark::Equal],
+        b'^' => &[Mark::Caret, Mark::CaretEqual],
+        b'|' => &[Mark::Bar, Mark::BarBar, Mark::BarEqual],
+        b'?' => &[Mark::Question],
+        b':' => &[Mark::Colon],
+        b',' => &[Mark::Comma],
+        b'{' => &[Mark::OpenBrace],
+        b'}' => &[Mark::CloseBrace],
+        b';' => &[Mark::Semicolon],
+        _ => &[],
+    }
+}
 
 impl Mark {
     /// How the operator or punctuator is spelled (C90 6.1.5, 6.1.6), in ASCII.
@@ -367,12 +330,12 @@ impl Mark {
         }
     }
 
-    /// The one that is spelled with these bytes, where there is one.
+    /// The one with these bytes.
     #[tactic(auto, unfolding(crate::specs::Words::mark_of))]
     pub fn with_text(text: &[u8]) -> Option<Mark>
         ensures { result ≡ spec.mark_of text.now }
     {
-        let mut rest = MARKS.as_slice();
+        let mut rest = marks_from(byte_at(text, 0));
         while let [first, after @ ..] = rest {
             if text == first.text() {
                 return Some(*first);

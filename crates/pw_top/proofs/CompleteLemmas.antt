@@ -126,9 +126,9 @@ answered_exactly : (opts : Opts) (files : Files) (answer result : Answer) → Te
 answered_exactly opts files answer result h p = ⊎_elim {C = RefusesExactly files opts result} (λ t. told_exactly opts files answer result t p) (λ e. memory_exactly opts files result e) h
 
 complete_of : Laws → (command : Option Command) (result : Answer) (told : Told) (new : Option Told) → AreWithin command → BuildsAs command result told new → IsComplete command told.files result
-complete_of laws (Some (BuildAll opts)) result told new within b = λ keeps. answered_exactly opts told.files b.answer result b.answered (built_exactly laws opts within.0 b.answer told new keeps b.built)
-complete_of laws (Some (Go opts)) result told new within b = λ keeps. answered_exactly opts.build told.files b.answer result b.answered (built_exactly laws opts.build within.0 b.answer told new keeps b.built)
-complete_of laws (Some (Where k opts)) result told new within b = λ keeps. answered_exactly opts.build told.files b.answer result b.answered (built_exactly laws opts.build within.1.0 b.answer told new keeps b.built)
+complete_of laws (Some (BuildAll opts)) result told new within b = λ keeps. answered_exactly opts told.files b.answer result b.answered (built_exactly laws opts within.colours b.answer told new keeps b.built)
+complete_of laws (Some (Go opts)) result told new within b = λ keeps. answered_exactly opts.build told.files b.answer result b.answered (built_exactly laws opts.build within.colours b.answer told new keeps b.built)
+complete_of laws (Some (Where k opts)) result told new within b = λ keeps. answered_exactly opts.build told.files b.answer result b.answered (built_exactly laws opts.build within.1.colours b.answer told new keeps b.built)
 complete_of laws command result told new within b = tt
 
 pub is_complete : Laws → (command : Option Command) (first new : Option Told) (result : Answer) → AreWithin command → IfSome first (λ t. BuildsAs command result t new) → IfSome first (λ t. IsComplete command t.files result)

@@ -145,11 +145,11 @@ AreWithin (Some command) = IsWithin command
 
 whole_of : BuildsAreFull → InterpsAreFull → SessionsAreFull → BenchesAreFull → (command : Option Command) (answer : Answer) (told : Told) (new : Option Told) (input : List ℕ) (rest taken taken' : Option (List ℕ)) → AreWithin command → DoesAs command answer told new input rest taken taken' → BuildsWhole command answer told new input rest taken taken'
 whole_of law interps sessions benches (Some (BuildAll opts)) answer told new input rest taken taken' w d =
-    λ keeps. build_whole opts (full_at law opts (record { colours = w.0; least = w.1.0; most = w.1.1 })) answer told new input rest taken taken' d keeps
+    λ keeps. build_whole opts (full_at law opts w) answer told new input rest taken taken' d keeps
 whole_of law interps sessions benches (Some (Go opts)) answer told new input rest taken taken' w d =
-    λ keeps. go_whole opts (full_at law opts.build (record { colours = w.0; least = w.1.0; most = w.1.1 })) answer told new input rest taken taken' d keeps
-whole_of law interps sessions benches (Some (Session opts)) answer told new input rest taken taken' w d = λ keeps. sessions opts told input (record { colours = w.0; least = w.1.0; most = w.1.1 }) keeps
-whole_of law interps sessions benches (Some (Bench number opts)) answer told new input rest taken taken' w d = bench_whole benches number opts (record { colours = w.0; least = w.1.0; most = w.1.1 }) answer told new input rest taken taken' d
+    λ keeps. go_whole opts (full_at law opts.build w) answer told new input rest taken taken' d keeps
+whole_of law interps sessions benches (Some (Session opts)) answer told new input rest taken taken' w d = λ keeps. sessions opts told input w keeps
+whole_of law interps sessions benches (Some (Bench number opts)) answer told new input rest taken taken' w d = bench_whole benches number opts w answer told new input rest taken taken' d
 whole_of law interps sessions benches (Some (Interp opts)) answer told new input rest taken taken' w d = λ keeps. interp_whole interps opts answer told new input rest taken taken' d keeps
 whole_of law interps sessions benches command answer told new input rest taken taken' w d = tt
 

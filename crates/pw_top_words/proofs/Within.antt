@@ -5,11 +5,13 @@ use Rattle.std.specs.Str.Parse.{digits_value}
 use Rattle.std.proofs.lemmas.Bool.Decides.{nat_tests}
 use Rattle.pw_value.specs.Limits.{stack_least, stack_limit}
 use Rattle.pw_store_modules.specs.Modules.{is_module_name}
+use Rattle.pw_build_opts.specs.declared.opts.Opts.{Opts}
 use Rattle.pw_build_opts.specs.declared.opts.RunOpts.{RunOpts}
+use Rattle.pw_build_opts.specs.Options.{AreOpts}
 use Rattle.pw_top_words.specs.declared.commands.Command.{Command}
 use Rattle.pw_top_words.specs.declared.commands.Command.TheVariants.{Go, Build, Session, PhaseOne, Analyse, PhaseTwo, Link, Run, List as ListImage, Db, Bench, Where, Preprocess, Interp}
 use Rattle.pw_top_switch.specs.Switch.{Text, is_switched, unswitched}
-use Rattle.pw_top_words.specs.CommandLine.{Part, is_numeral, number_in, number_or, value_of, colours, stack, steps, colours_in, stack_in, steps_in, module_named, module_in, plain_word, parts_of, seed_in, call_in, call_limit, built_with, run_with, with_build, with_run, go_of, build_of, session_of, analyse_of, link_of, run_of, bench_of, where_of, interp_of, command_by_name, command_of, usual_stack}
+use Rattle.pw_top_words.specs.CommandLine.{Part, is_numeral, number_in, number_or, value_of, colours, stack, steps, colours_in, stack_in, steps_in, module_named, module_in, plain_word, parts_of, seed_in, call_in, call_limit, build_opts_in, run_opts_in, go_of, build_of, session_of, analyse_of, link_of, run_of, bench_of, where_of, interp_of, command_by_name, command_of, usual_stack}
 use Rattle.pw_top_words.specs.Limits.{IsStack, IsWithin}
 use Rattle.pw_db.specs.Limits.{colour_limit}
 
@@ -92,63 +94,82 @@ any_within : (make : ℕ → Command) (found : Option ℕ) → ((n : ℕ) → Is
 any_within make None k = none_within
 any_within make (Some n) k = some_within (make n) (k n)
 
--- the numbers of a build and a run, for each command that has them
-abbrev Runs : (RunOpts → Command) → Type 0
-Runs say = (c s n : ℕ) (o : Bool) → c ≤ colour_limit → IsStack s → IsWithin (say (run_with c s o n))
+-- the options of a build, and of a build and a run
+abbrev AreIn : Option Opts → Type 0
+AreIn None = Unit {0}
+AreIn (Some opts) = AreOpts opts
 
-stacked : (say : RunOpts → Command) (o : Bool) (c : ℕ) (given : Option ℕ) (parts : List Part) → Runs say → c ≤ colour_limit → IsIn stack_least stack_limit given → Within (option_and_then (λ s. option_map (λ n. say (run_with c s o n)) (steps_in parts)) given)
-stacked say o c None parts all h k = none_within
-stacked say o c (Some s) parts all h k = any_within (λ n. say (run_with c s o n)) (steps_in parts) (λ n. all c s n o h k)
+abbrev RunIn : Option RunOpts → Type 0
+RunIn None = Unit {0}
+RunIn (Some opts) = AreOpts opts.build
 
-coloured : (say : RunOpts → Command) (o : Bool) (given : Option ℕ) (parts : List Part) → Runs say → IsIn 0 colour_limit given → Within (option_and_then (λ c. option_and_then (λ s. option_map (λ n. say (run_with c s o n)) (steps_in parts)) (stack_in parts)) given)
-coloured say o None parts all h = none_within
-coloured say o (Some c) parts all h = stacked say o c (stack_in parts) parts all h.1 (stack_is_in parts)
+stack_with : (o : Bool) (c : ℕ) (given : Option ℕ) → c ≤ colour_limit → IsIn stack_least stack_limit given → AreIn (option_map (λ s. record { colours = c; stack = s; optimise = o }) given)
+stack_with o c None few is = tt
+stack_with o c (Some s) few is = record { colours = few; least = is.0; most = is.1 }
 
-run_options_within : (say : RunOpts → Command) (o : Bool) (parts : List Part) → Runs say → Within (with_run say o parts)
-run_options_within say o parts all = coloured say o (colours_in parts) parts all (colours_are_in parts)
+colours_with : (o : Bool) (found given : Option ℕ) → IsIn 0 colour_limit found → IsIn stack_least stack_limit given
+    → AreIn (option_and_then (λ c. option_map (λ s. record { colours = c; stack = s; optimise = o }) given) found)
+colours_with o None given few is = tt
+colours_with o (Some c) given few is = stack_with o c given few.1 is
+
+build_opts_are : (o : Bool) (parts : List Part) → AreIn (build_opts_in o parts)
+build_opts_are o parts = colours_with o (colours_in parts) (stack_in parts) (colours_are_in parts) (stack_is_in parts)
+
+budget_with : (opts : Opts) (given : Option ℕ) → AreOpts opts → RunIn (option_map (λ n. record { build = opts; budget = n }) given)
+budget_with opts None are = tt
+budget_with opts (Some n) are = are
+
+steps_with : (found : Option Opts) (given : Option ℕ) → AreIn found → RunIn (option_and_then (λ b. option_map (λ n. record { build = b; budget = n }) given) found)
+steps_with None given are = tt
+steps_with (Some opts) given are = budget_with opts given are
+
+run_opts_are : (o : Bool) (parts : List Part) → RunIn (run_opts_in o parts)
+run_opts_are o parts = steps_with (build_opts_in o parts) (steps_in parts) (build_opts_are o parts)
+
+said : (say : RunOpts → Command) (found : Option RunOpts) → ((opts : RunOpts) → AreOpts opts.build → IsWithin (say opts)) → RunIn found → Within (option_map say found)
+said say None all are = none_within
+said say (Some opts) all are = some_within (say opts) (all opts are)
+
+run_options_within : (say : RunOpts → Command) (o : Bool) (parts : List Part) → ((opts : RunOpts) → AreOpts opts.build → IsWithin (say opts)) → Within (option_map say (run_opts_in o parts))
+run_options_within say o parts all = said say (run_opts_in o parts) all (run_opts_are o parts)
 
 go_within : (o : Bool) (words : List Text) → Within (go_of o words)
-go_within o words = parts_within (parts_of (colours ∷ stack ∷ steps ∷ []) 0 words) (with_run Go o) (λ parts. run_options_within Go o parts (λ c s n o h k. (h, k)))
+go_within o words = parts_within (parts_of (colours ∷ stack ∷ steps ∷ []) 0 words) (λ parts. option_map Go (run_opts_in o parts)) (λ parts. run_options_within Go o parts (λ opts are. are))
 
 session_within : (o : Bool) (words : List Text) → Within (session_of o words)
-session_within o words = parts_within (parts_of (colours ∷ stack ∷ steps ∷ []) 0 words) (with_run Session o) (λ parts. run_options_within Session o parts (λ c s n o h k. (h, k)))
+session_within o words = parts_within (parts_of (colours ∷ stack ∷ steps ∷ []) 0 words) (λ parts. option_map Session (run_opts_in o parts)) (λ parts. run_options_within Session o parts (λ opts are. are))
 
-seeded : (o : Bool) (given : Option ℕ) (parts : List Part) → Within (option_and_then (λ x. with_run (Bench x) o parts) given)
+seeded : (o : Bool) (given : Option ℕ) (parts : List Part) → Within (option_and_then (λ x. option_map (Bench x) (run_opts_in o parts)) given)
 seeded o None parts = none_within
-seeded o (Some x) parts = run_options_within (Bench x) o parts (λ c s n o h k. (h, k))
+seeded o (Some x) parts = run_options_within (Bench x) o parts (λ opts are. are)
 
 bench_within : (o : Bool) (words : List Text) → Within (bench_of o words)
 bench_within o words =
-    parts_within (parts_of (colours ∷ stack ∷ steps ∷ []) 1 words) (λ parts. option_and_then (λ x. with_run (Bench x) o parts) (seed_in parts)) (λ parts. seeded o (seed_in parts) parts)
+    parts_within (parts_of (colours ∷ stack ∷ steps ∷ []) 1 words) (λ parts. option_and_then (λ x. option_map (Bench x) (run_opts_in o parts)) (seed_in parts)) (λ parts. seeded o (seed_in parts) parts)
 
 -- the number of a call is one at least
 call_is_in : (found : Option Text) → IsIn 1 call_limit (option_and_then (number_in 1 call_limit) found)
 call_is_in None = tt
 call_is_in (Some text) = number_is_in 1 call_limit text
 
-called : (o : Bool) (given : Option ℕ) (parts : List Part) → IsIn 1 call_limit given → Within (option_and_then (λ k. with_run (Where k) o parts) given)
+called : (o : Bool) (given : Option ℕ) (parts : List Part) → IsIn 1 call_limit given → Within (option_and_then (λ k. option_map (Where k) (run_opts_in o parts)) given)
 called o None parts h = none_within
-called o (Some k) parts h = run_options_within (Where k) o parts (λ c s n o few is_stack. (omega (arith, h.0), (few, is_stack)))
+called o (Some k) parts h = run_options_within (Where k) o parts (λ opts are. (omega (arith, h.0), are))
 
 where_within : (o : Bool) (words : List Text) → Within (where_of o words)
 where_within o words =
-    parts_within (parts_of (colours ∷ stack ∷ steps ∷ []) 1 words) (λ parts. option_and_then (λ k. with_run (Where k) o parts) (call_in parts))
+    parts_within (parts_of (colours ∷ stack ∷ steps ∷ []) 1 words) (λ parts. option_and_then (λ k. option_map (Where k) (run_opts_in o parts)) (call_in parts))
     (λ parts. called o (call_in parts) parts (call_is_in (plain_word parts)))
 
 interp_within : (o : Bool) (words : List Text) → Within (interp_of o words)
-interp_within o words = parts_within (parts_of (colours ∷ stack ∷ steps ∷ []) 0 words) (with_run Interp o) (λ parts. run_options_within Interp o parts (λ c s n o h k. (h, k)))
+interp_within o words = parts_within (parts_of (colours ∷ stack ∷ steps ∷ []) 0 words) (λ parts. option_map Interp (run_opts_in o parts)) (λ parts. run_options_within Interp o parts (λ opts are. are))
 
--- the numbers of a build
-built : (o : Bool) (c : ℕ) (given : Option ℕ) → c ≤ colour_limit → IsIn stack_least stack_limit given → Within (option_map (λ s. Build (built_with c s o)) given)
-built o c None h k = none_within
-built o c (Some s) h k = some_within (Build (built_with c s o)) (h, k)
-
-build_options_within : (o : Bool) (given : Option ℕ) (parts : List Part) → IsIn 0 colour_limit given → Within (option_and_then (λ c. option_map (λ s. Build (built_with c s o)) (stack_in parts)) given)
-build_options_within o None parts h = none_within
-build_options_within o (Some c) parts h = built o c (stack_in parts) h.1 (stack_is_in parts)
+build_said : (found : Option Opts) → AreIn found → Within (option_map Build found)
+build_said None are = none_within
+build_said (Some opts) are = some_within (Build opts) are
 
 build_within : (o : Bool) (words : List Text) → Within (build_of o words)
-build_within o words = parts_within (parts_of (colours ∷ stack ∷ []) 0 words) (with_build Build o) (λ parts. build_options_within o (colours_in parts) parts (colours_are_in parts))
+build_within o words = parts_within (parts_of (colours ∷ stack ∷ []) 0 words) (λ parts. option_map Build (build_opts_in o parts)) (λ parts. build_said (build_opts_in o parts) (build_opts_are o parts))
 
 phase_within : (make : Text → Command) (words : List Text) → ((name : Text) → is_module_name name ≡ true → IsWithin (make name)) → Within (option_and_then (λ parts. option_map make (module_in parts)) (parts_of [] 1 words))
 phase_within make words k =

@@ -169,29 +169,22 @@ call_in parts = option_and_then (number_in 1 call_limit) (plain_word parts)
 
 -- ---- commands
 
--- what is said by the options of a build, and by those of a build and a run
-abbrev pub built_with : ℕ → ℕ → Bool → Opts
-built_with c s o = record { colours = c; stack = s; optimise = o }
+-- the options of a build, and of a build and a run, with whether the switch is there
+abbrev pub build_opts_in : Bool → List Part → Option Opts
+build_opts_in o parts = option_and_then (λ c. option_map (λ s. record { colours = c; stack = s; optimise = o }) (stack_in parts)) (colours_in parts)
 
-abbrev pub with_build : (Opts → Command) → Bool → List Part → Option Command
-with_build say o parts = option_and_then (λ c. option_map (λ s. say (built_with c s o)) (stack_in parts)) (colours_in parts)
-
-abbrev pub run_with : ℕ → ℕ → Bool → ℕ → RunOpts
-run_with c s o n = record { build = built_with c s o; budget = n }
-
-abbrev pub with_run : (RunOpts → Command) → Bool → List Part → Option Command
-with_run say o parts =
-    option_and_then (λ c. option_and_then (λ s. option_map (λ n. say (run_with c s o n)) (steps_in parts)) (stack_in parts)) (colours_in parts)
+abbrev pub run_opts_in : Bool → List Part → Option RunOpts
+run_opts_in o parts = option_and_then (λ b. option_map (λ n. record { build = b; budget = n }) (steps_in parts)) (build_opts_in o parts)
 
 -- what the words behind a command's name say, of those that may have a switch the others with whether it is there
 abbrev pub go_of : Bool → List Text → Option Command
-go_of o words = option_and_then (with_run Go o) (parts_of (colours ∷ stack ∷ steps ∷ []) 0 words)
+go_of o words = option_and_then (λ parts. option_map Go (run_opts_in o parts)) (parts_of (colours ∷ stack ∷ steps ∷ []) 0 words)
 
 abbrev pub build_of : Bool → List Text → Option Command
-build_of o words = option_and_then (with_build Build o) (parts_of (colours ∷ stack ∷ []) 0 words)
+build_of o words = option_and_then (λ parts. option_map Build (build_opts_in o parts)) (parts_of (colours ∷ stack ∷ []) 0 words)
 
 abbrev pub session_of : Bool → List Text → Option Command
-session_of o words = option_and_then (with_run Session o) (parts_of (colours ∷ stack ∷ steps ∷ []) 0 words)
+session_of o words = option_and_then (λ parts. option_map Session (run_opts_in o parts)) (parts_of (colours ∷ stack ∷ steps ∷ []) 0 words)
 
 abbrev pub preprocess_of : List Text → Option Command
 preprocess_of words = option_and_then (λ parts. option_map Preprocess (module_in parts)) (parts_of [] 1 words)
@@ -219,14 +212,14 @@ db_of words = option_map (λ parts. Db) (parts_of [] 0 words)
 
 abbrev pub bench_of : Bool → List Text → Option Command
 bench_of o words =
-    option_and_then (λ parts. option_and_then (λ x. with_run (Bench x) o parts) (seed_in parts)) (parts_of (colours ∷ stack ∷ steps ∷ []) 1 words)
+    option_and_then (λ parts. option_and_then (λ x. option_map (Bench x) (run_opts_in o parts)) (seed_in parts)) (parts_of (colours ∷ stack ∷ steps ∷ []) 1 words)
 
 abbrev pub where_of : Bool → List Text → Option Command
 where_of o words =
-    option_and_then (λ parts. option_and_then (λ k. with_run (Where k) o parts) (call_in parts)) (parts_of (colours ∷ stack ∷ steps ∷ []) 1 words)
+    option_and_then (λ parts. option_and_then (λ k. option_map (Where k) (run_opts_in o parts)) (call_in parts)) (parts_of (colours ∷ stack ∷ steps ∷ []) 1 words)
 
 abbrev pub interp_of : Bool → List Text → Option Command
-interp_of o words = option_and_then (with_run Interp o) (parts_of (colours ∷ stack ∷ steps ∷ []) 0 words)
+interp_of o words = option_and_then (λ parts. option_map Interp (run_opts_in o parts)) (parts_of (colours ∷ stack ∷ steps ∷ []) 0 words)
 
 -- the command of a name, and what the words behind it say: all of them, or those without a switch and whether it was there
 unfoldable pub command_by_name : Text → Bool → List Text → List Text → Option Command

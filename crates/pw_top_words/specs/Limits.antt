@@ -2,7 +2,7 @@
 use Rattle.std.specs.Prelude.{◌<◌, ◌≡◌, ℕ, ◌≤◌, true}
 use Rattle.pw_value.specs.Limits.{stack_least, stack_limit}
 use Rattle.pw_store_modules.specs.Modules.{is_module_name}
-use Rattle.pw_build_opts.specs.declared.opts.Opts.{Opts}
+use Rattle.pw_build_opts.specs.Options.{AreOpts}
 use Rattle.pw_top_words.specs.declared.commands.Command.{Command}
 use Rattle.pw_top_words.specs.declared.commands.Command.TheVariants.{Go, Build, Session, PhaseOne, Analyse, PhaseTwo, Link, Run, List as ListImage, Db, Bench, Where, Preprocess, Interp}
 use Rattle.pw_db.specs.Limits.{colour_limit}
@@ -11,15 +11,11 @@ use Rattle.pw_db.specs.Limits.{colour_limit}
 abbrev pub IsStack : ℕ → Type 0
 IsStack stack = (stack_least ≤ stack) × (stack ≤ stack_limit)
 
--- the options of a build
-abbrev pub AreWithin : Opts → Type 0
-AreWithin opts = (opts.colours ≤ colour_limit) × IsStack opts.stack
-
 -- Webs have so many registers at most, a stack lies within its limits, and a module's name is one.
 abbrev pub IsWithin : Command → Type 0
-IsWithin (Go opts) = AreWithin opts.build
-IsWithin (Build opts) = AreWithin opts
-IsWithin (Session opts) = AreWithin opts.build
+IsWithin (Go opts) = AreOpts opts.build
+IsWithin (Build opts) = AreOpts opts
+IsWithin (Session opts) = AreOpts opts.build
 IsWithin (Preprocess name) = is_module_name name ≡ true
 IsWithin (PhaseOne name optimise) = is_module_name name ≡ true
 IsWithin (Analyse colours) = colours ≤ colour_limit
@@ -28,6 +24,6 @@ IsWithin (Link stack) = IsStack stack
 IsWithin (Run steps) = Unit {0}
 IsWithin ListImage = Unit {0}
 IsWithin Db = Unit {0}
-IsWithin (Bench number opts) = AreWithin opts.build
-IsWithin (Where k opts) = (0 < k) × AreWithin opts.build
-IsWithin (Interp opts) = AreWithin opts.build
+IsWithin (Bench number opts) = AreOpts opts.build
+IsWithin (Where k opts) = (0 < k) × AreOpts opts.build
+IsWithin (Interp opts) = AreOpts opts.build

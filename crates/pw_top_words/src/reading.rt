@@ -3,7 +3,7 @@
 ghost use Rattle.std.specs.Prelude.{◌≡◌, ◌≢◌, ◌≤◌, ℕ, List, None, Err, IfErr, IfOk, drop, map, string_bytes, codes, option_map, option_and_then, Option};
 ghost use Rattle.clap.specs.Matches.{first_value, found_of};
 ghost use Rattle.pw_top_switch.specs.Switch.{is_switched, unswitched};
-ghost use Rattle.pw_top_words.specs.CommandLine.{Part, Reads, colours_in, command_of, go_of, command_by_name, module_in, number_or, parts_of, seed_in, stack_in, steps_in, with_build, with_run, build_of, session_of, bench_of, phase_one_of, phase_two_of, analyse_of, link_of, run_of, list_of, db_of, where_of, call_in, call_limit, digits_limit, usual_stack, steps_limit, seed_limit, usual_steps, preprocess_of, interp_of};
+ghost use Rattle.pw_top_words.specs.CommandLine.{Part, Reads, colours_in, command_of, go_of, command_by_name, module_in, number_or, parts_of, seed_in, stack_in, steps_in, build_opts_in, run_opts_in, build_of, session_of, bench_of, phase_one_of, phase_two_of, analyse_of, link_of, run_of, list_of, db_of, where_of, call_in, call_limit, digits_limit, usual_stack, steps_limit, seed_limit, usual_steps, preprocess_of, interp_of};
 ghost use Rattle.pw_top_words.specs.Reading.{IsMatchOf};
 
 use crate::commands::Command;
@@ -117,6 +117,29 @@ fn steps(matches: &ArgMatches) -> Result<u64, WordsFault>
     number_or(matches, STEPS, 1, STEPS_LIMIT, USUAL_STEPS)
 }
 
+/// The options of a build, by the words and by whether the switch was there.
+fn build_opts(matches: &ArgMatches, optimise: bool) -> Result<Opts, WordsFault>
+    ensures read { (parts : List Part) → IsMatchOf parts matches.now → Reads (build_opts_in optimise parts) result }
+    ensures no_memory { IfErr result (λ fault. fault ≢ WordsFault.NoMemory) }
+{
+    Ok(Opts {
+        colours: colours(matches)?,
+        stack: stack(matches)?,
+        optimise,
+    })
+}
+
+/// The options of a build and a run, by the words and by whether the switch was there.
+fn run_opts(matches: &ArgMatches, optimise: bool) -> Result<RunOpts, WordsFault>
+    ensures read { (parts : List Part) → IsMatchOf parts matches.now → Reads (run_opts_in optimise parts) result }
+    ensures no_memory { IfErr result (λ fault. fault ≢ WordsFault.NoMemory) }
+{
+    Ok(RunOpts {
+        build: build_opts(matches, optimise)?,
+        budget: steps(matches)?,
+    })
+}
+
 /// The module that the words name.
 fn module(alloc: Global, matches: &ArgMatches) -> Result<Name, WordsFault>
     ensures read { (parts : List Part) → IsMatchOf parts matches.now → Reads (module_in parts) result }
@@ -167,39 +190,21 @@ fn go(alloc: Global, words: &[String], optimise: bool) -> Result<Command, WordsF
     ensures { Reads (go_of optimise (drop 1 (map string_bytes words.now))) result }
 {
     let matches = read_parts(alloc, words, &BUILD_AND_RUN, false)?;
-    Ok(Command::Go(RunOpts {
-        build: Opts {
-            colours: colours(&matches)?,
-            stack: stack(&matches)?,
-            optimise,
-        },
-        budget: steps(&matches)?,
-    }))
+    Ok(Command::Go(run_opts(&matches, optimise)?))
 }
 
 fn build(alloc: Global, words: &[String], optimise: bool) -> Result<Command, WordsFault>
     ensures { Reads (build_of optimise (drop 1 (map string_bytes words.now))) result }
 {
     let matches = read_parts(alloc, words, &BUILD, false)?;
-    Ok(Command::Build(Opts {
-        colours: colours(&matches)?,
-        stack: stack(&matches)?,
-        optimise,
-    }))
+    Ok(Command::Build(build_opts(&matches, optimise)?))
 }
 
 fn session(alloc: Global, words: &[String], optimise: bool) -> Result<Command, WordsFault>
     ensures { Reads (session_of optimise (drop 1 (map string_bytes words.now))) result }
 {
     let matches = read_parts(alloc, words, &BUILD_AND_RUN, false)?;
-    Ok(Command::Session(RunOpts {
-        build: Opts {
-            colours: colours(&matches)?,
-            stack: stack(&matches)?,
-            optimise,
-        },
-        budget: steps(&matches)?,
-    }))
+    Ok(Command::Session(run_opts(&matches, optimise)?))
 }
 
 fn preprocess(alloc: Global, words: &[String]) -> Result<Command, WordsFault>
@@ -273,14 +278,7 @@ fn bench(alloc: Global, words: &[String], optimise: bool) -> Result<Command, Wor
     let matches = read_parts(alloc, words, &BUILD_AND_RUN, true)?;
     Ok(Command::Bench {
         number: seed(&matches)?,
-        opts: RunOpts {
-            build: Opts {
-                colours: colours(&matches)?,
-                stack: stack(&matches)?,
-                optimise,
-            },
-            budget: steps(&matches)?,
-        },
+        opts: run_opts(&matches, optimise)?,
     })
 }
 
@@ -290,14 +288,7 @@ fn show_call(alloc: Global, words: &[String], optimise: bool) -> Result<Command,
     let matches = read_parts(alloc, words, &BUILD_AND_RUN, true)?;
     Ok(Command::Where {
         call: call(&matches)?,
-        opts: RunOpts {
-            build: Opts {
-                colours: colours(&matches)?,
-                stack: stack(&matches)?,
-                optimise,
-            },
-            budget: steps(&matches)?,
-        },
+        opts: run_opts(&matches, optimise)?,
     })
 }
 
@@ -305,14 +296,7 @@ fn interp(alloc: Global, words: &[String], optimise: bool) -> Result<Command, Wo
     ensures { Reads (interp_of optimise (drop 1 (map string_bytes words.now))) result }
 {
     let matches = read_parts(alloc, words, &BUILD_AND_RUN, false)?;
-    Ok(Command::Interp(RunOpts {
-        build: Opts {
-            colours: colours(&matches)?,
-            stack: stack(&matches)?,
-            optimise,
-        },
-        budget: steps(&matches)?,
-    }))
+    Ok(Command::Interp(run_opts(&matches, optimise)?))
 }
 
 /// The command of a name, by the words, of which the first is the name, and by the words without the switch.

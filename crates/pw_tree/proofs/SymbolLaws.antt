@@ -25,6 +25,7 @@ found_text text (x ∷ xs) s a h = by_test text x a s (with_text text xs s) (byt
 
 pub keyword_of_text : (w : Keyword) → keyword_of (keyword_text w) ≡ Some w
 unfolding keyword_of
+keyword_of_text k.Auto = refl
 keyword_of_text _ = refl
 
 pub mark_of_text : (s : Mark) → mark_of (mark_text s) ≡ Some s

@@ -1,7 +1,7 @@
 -- Scopes of ordinary identifiers (C90 6.1.2.1), as far as the grammar needs them: which are visible as typedef names.
 -- Scopes are nested, so that what an inner scope declares is left out again by going on with the names before it.
 use Rattle.std.specs.Prelude.{ℕ, Bool, true, false, ◌||◌, if◌then◌else◌, List, [], ◌∷◌, bytes_eq, Option, Some, None}
-use Rattle.pw_tree.specs.Trees.{Word, Expr, Identifier, Number, Floating, Character, Wide, Strings, Paren, Postfix, Unary, SizeofType, Cast, Chain, Conditional, Assign, Postfixes, NoPostfix, Index, Call, Select, Step, Arguments, NoArgument, Argument, Operations, NoOperation, Operation, Specifiers, NoSpecifier, Storage, Qualified, Basic, TypedefName, RecordTag, Record, EnumTag, Enum, Members, NoMember, Member, MemberDeclarators, NoMemberDeclarator, PlainMember, BitField, Padding, Enumerators, NoEnumerator, PlainEnumerator, ValuedEnumerator, Declarator, Declaring, Core, Absent, Name, Enclosed, Suffixes, NoSuffix, Array, OpenArray, Prototype, Variadic, Identifiers, Parameters, NoParameter, Parameter, Init, Value, Braces, Inits, NoInit, Listed, Initializer, InitDeclarator, Decl, Label, CaseLabel, DefaultLabel, NameLabel, Stmt, Compound, Expression, Empty, Labeled, If, Switch, While, Do, For, Goto, Continue, Break, Return, Alternative, NoElse, Otherwise, ElseIf, External, Definition, Declaration}
+use Rattle.pw_tree.specs.Trees.{Word, Expr, Identifier, Number, Floating, Character, Wide, Strings, Paren, Postfix, Unary, SizeofType, Cast, Chain, Conditional, Assign, Postfixes, NoPostfix, Index, Call, Select, Step, Arguments, NoArgument, Argument, Operations, NoOperation, Operation, Specifiers, NoSpecifier, Storage, Qualified, Basic, TypedefName, RecordTag, Record, EnumTag, Enum, Members, NoMember, Member, MemberDeclarators, NoMemberDeclarator, PlainMember, BitField, Padding, Enumerators, NoEnumerator, PlainEnumerator, ValuedEnumerator, Declarator, Declaring, Core, Absent, Name, Enclosed, Suffixes, NoSuffix, Array, OpenArray, Prototype, Variadic, Identifiers, Parameters, NoParameter, Parameter, Init, Value, Braces, Inits, NoInit, Listed, Initializer, InitDeclarator, Decl, Label, CaseLabel, DefaultLabel, NameLabel, Stmt, Expression, Labeled, If, Switch, While, Do, For, Return, Alternative, NoElse, Otherwise, ElseIf, External, Definition, Declaration}
 use Rattle.pw_tree.specs.declared.expr.StorageClass.{StorageClass}
 use Rattle.pw_tree.specs.declared.expr.StorageClass.TheVariants as storage
 
@@ -215,19 +215,15 @@ after_labels env (l ∷ ls) = after_labels (after_label env l) ls
 
 unfoldable mutual
   pub after_stmt : Env → Stmt → Env
-  after_stmt env (Compound b) = env
   after_stmt env (Expression e) = after_expr env e
-  after_stmt env (Empty n) = env
   after_stmt env (Labeled ls s) = after_stmt (after_labels env ls) s
   after_stmt env (If n c s a) = after_alternative (after_stmt (after_expr env c) s) a
   after_stmt env (Switch n e s) = after_stmt (after_expr env e) s
   after_stmt env (While n e s) = after_stmt (after_expr env e) s
   after_stmt env (Do n s e) = after_expr (after_stmt env s) e
   after_stmt env (For n a b c s) = after_stmt (after_optional (after_optional (after_optional env a) b) c) s
-  after_stmt env (Goto n w) = env
-  after_stmt env (Continue n) = env
-  after_stmt env (Break n) = env
   after_stmt env (Return n e) = after_optional env e
+  after_stmt env s = env
 
   pub after_alternative : Env → Alternative → Env
   after_alternative env NoElse = env

@@ -2,7 +2,7 @@
 use Rattle.std.specs.Prelude.{◌≡◌, ℕ, ◌<◌, ◌≤◌, Bool, true, false, not, ◌||◌, List, [], ◌∷◌, Option, Some, None}
 use Rattle.pw_tree.specs.Levels.{level, binary_level, chain_level, primary, unary, cast, logical_or, conditional, assignment}
 use Rattle.pw_tree.specs.Scopes.{Env, is_typedef_name, has_type, after_expr, after_arguments, after_specifiers, after_members, after_member_declarators, after_enumerators, declare_plain, after_declarator, after_core, after_parameter, after_optional, after_init, after_initializer, after_name, after_decl, after_decls, after_label, after_labels, after_stmt, enter, after_external}
-use Rattle.pw_tree.specs.Trees.{Word, Expr, Identifier, Number, Floating, Character, Wide, Strings, Paren, Postfix, Unary, SizeofType, Cast, Chain, Conditional, Assign, Postfixes, NoPostfix, Index, Call, Select, Step, Arguments, NoArgument, Argument, Operations, NoOperation, Operation, Specifiers, NoSpecifier, Storage, Qualified, Basic, TypedefName, RecordTag, Record, EnumTag, Enum, Members, NoMember, Member, MemberDeclarators, NoMemberDeclarator, PlainMember, BitField, Padding, Enumerators, NoEnumerator, PlainEnumerator, ValuedEnumerator, Declarator, Declaring, Core, Absent, Name, Enclosed, Suffixes, NoSuffix, Array, OpenArray, Prototype, Variadic, Identifiers, Parameters, NoParameter, Parameter, Init, Value, Braces, Inits, NoInit, Listed, Initializer, InitDeclarator, Decl, Label, CaseLabel, DefaultLabel, NameLabel, Stmt, Compound, Expression, Empty, Labeled, If, Switch, While, Do, For, Goto, Continue, Break, Return, Alternative, NoElse, Otherwise, ElseIf, Block, Braced, Stmts, NoStmt, Next, Function, External, Definition, Declaration, Module}
+use Rattle.pw_tree.specs.Trees.{Word, Expr, Identifier, Number, Floating, Character, Wide, Strings, Paren, Postfix, Unary, SizeofType, Cast, Chain, Conditional, Assign, Postfixes, NoPostfix, Index, Call, Select, Step, Arguments, NoArgument, Argument, Operations, NoOperation, Operation, Specifiers, NoSpecifier, Storage, Qualified, Basic, TypedefName, RecordTag, Record, EnumTag, Enum, Members, NoMember, Member, MemberDeclarators, NoMemberDeclarator, PlainMember, BitField, Padding, Enumerators, NoEnumerator, PlainEnumerator, ValuedEnumerator, Declarator, Declaring, Core, Absent, Name, Enclosed, Suffixes, NoSuffix, Array, OpenArray, Prototype, Variadic, Identifiers, Parameters, NoParameter, Parameter, Init, Value, Braces, Inits, NoInit, Listed, Initializer, InitDeclarator, Decl, Label, CaseLabel, DefaultLabel, NameLabel, Stmt, Compound, Expression, Labeled, If, Switch, While, Do, For, Return, Alternative, NoElse, Otherwise, ElseIf, Block, Braced, Stmts, NoStmt, Next, Function, External, Definition, Declaration, Module}
 use Rattle.pw_tree.specs.declared.operator.UnaryOperator.{UnaryOperator}
 use Rattle.pw_tree.specs.declared.operator.UnaryOperator.TheVariants as u
 
@@ -299,19 +299,12 @@ NotIf _ = Unit {0}
 -- The statement ends with an `if` that has no `else` and could have one.
 abbrev mutual
   pub ends_open : Stmt → Bool
-  ends_open (Compound b) = false
-  ends_open (Expression e) = false
-  ends_open (Empty n) = false
   ends_open (Labeled ls s) = ends_open s
   ends_open (If n c s a) = alternative_ends_open a
   ends_open (Switch n e s) = ends_open s
   ends_open (While n e s) = ends_open s
-  ends_open (Do n s e) = false
   ends_open (For n a b c s) = ends_open s
-  ends_open (Goto n w) = false
-  ends_open (Continue n) = false
-  ends_open (Break n) = false
-  ends_open (Return n e) = false
+  ends_open s = false
 
   pub alternative_ends_open : Alternative → Bool
   alternative_ends_open NoElse = true
@@ -329,7 +322,6 @@ unfoldable mutual
   pub WellFormedStmt : Env → Stmt → Type 0
   WellFormedStmt env (Compound b) = WellFormedBlock env b
   WellFormedStmt env (Expression e) = WellFormed env e
-  WellFormedStmt env (Empty n) = Unit {0}
   WellFormedStmt env (Labeled ls s) =
       NotEmpty ls × WellFormedLabels env ls × NotLabeled s × WellFormedStmt (after_labels env ls) s
   WellFormedStmt env (If n c s a) =
@@ -342,10 +334,8 @@ unfoldable mutual
       WellFormedOptional env a × WellFormedOptional (after_optional env a) b
       × WellFormedOptional (after_optional (after_optional env a) b) c
       × WellFormedStmt (after_optional (after_optional (after_optional env a) b) c) s
-  WellFormedStmt env (Goto n w) = Unit {0}
-  WellFormedStmt env (Continue n) = Unit {0}
-  WellFormedStmt env (Break n) = Unit {0}
   WellFormedStmt env (Return n e) = WellFormedOptional env e
+  WellFormedStmt env s = Unit {0}
 
   -- 6.6.4.1
   pub WellFormedAlternative : Env → Alternative → Type 0

@@ -2,7 +2,7 @@
 use Rattle.std.specs.Prelude.{List, [], ◌∷◌, Option, Some, None}
 use Rattle.pw_token.specs.Spelling.{Spells}
 use Rattle.pw_token.specs.declared.token.TokenKind.TheVariants as kind
-use Rattle.pw_tree.specs.Trees.{Word, Expr, Identifier, Number, Floating, Character, Wide, Strings, Paren, Postfix, Unary, SizeofType, Cast, Chain, Conditional, Assign, Postfixes, NoPostfix, Index, Call, Select, Step, Arguments, NoArgument, Argument, Operations, NoOperation, Operation, Specifiers, NoSpecifier, Storage, Qualified, Basic, TypedefName, RecordTag, Record, EnumTag, Enum, Members, NoMember, Member, MemberDeclarators, NoMemberDeclarator, PlainMember, BitField, Padding, Enumerators, NoEnumerator, PlainEnumerator, ValuedEnumerator, Declarator, Declaring, Core, Absent, Name, Enclosed, Suffixes, NoSuffix, Array, OpenArray, Prototype, Variadic, Identifiers, Parameters, NoParameter, Parameter, Init, Value, Braces, Inits, NoInit, Listed, Initializer, InitDeclarator, Decl, Label, CaseLabel, DefaultLabel, NameLabel, Stmt, Compound, Expression, Empty, Labeled, If, Switch, While, Do, For, Goto, Continue, Break, Return, Alternative, NoElse, Otherwise, ElseIf, Block, Braced, Stmts, NoStmt, Next, External, Definition, Declaration, Module}
+use Rattle.pw_tree.specs.Trees.{Word, Expr, Identifier, Number, Floating, Character, Wide, Strings, Paren, Postfix, Unary, SizeofType, Cast, Chain, Conditional, Assign, Postfixes, NoPostfix, Index, Call, Select, Step, Arguments, NoArgument, Argument, Operations, NoOperation, Operation, Specifiers, NoSpecifier, Storage, Qualified, Basic, TypedefName, RecordTag, Record, EnumTag, Enum, Members, NoMember, Member, MemberDeclarators, NoMemberDeclarator, PlainMember, BitField, Padding, Enumerators, NoEnumerator, PlainEnumerator, ValuedEnumerator, Declarator, Declaring, Core, Absent, Name, Enclosed, Suffixes, NoSuffix, Array, OpenArray, Prototype, Variadic, Identifiers, Parameters, NoParameter, Parameter, Init, Value, Braces, Inits, NoInit, Listed, Initializer, InitDeclarator, Decl, Label, CaseLabel, DefaultLabel, NameLabel, Stmt, Compound, Expression, Labeled, If, Switch, While, Do, For, Goto, Return, Alternative, NoElse, Otherwise, ElseIf, Block, Braced, Stmts, NoStmt, Next, External, Definition, Declaration, Module}
 
 abbrev pub IsIdentifier : Word → Type 0
 IsIdentifier w = Spells kind.Identifier w.text
@@ -154,7 +154,6 @@ unfoldable mutual
   pub WordsSpellStmt : Stmt → Type 0
   WordsSpellStmt (Compound b) = WordsSpellBlock b
   WordsSpellStmt (Expression e) = WordsSpell e
-  WordsSpellStmt (Empty n) = Unit {0}
   WordsSpellStmt (Labeled ls s) = WordsSpellLabels ls × WordsSpellStmt s
   WordsSpellStmt (If n c s a) = WordsSpell c × WordsSpellStmt s × WordsSpellAlternative a
   WordsSpellStmt (Switch n e s) = WordsSpell e × WordsSpellStmt s
@@ -162,9 +161,8 @@ unfoldable mutual
   WordsSpellStmt (Do n s e) = WordsSpellStmt s × WordsSpell e
   WordsSpellStmt (For n a b c s) = WordsSpellOptional a × WordsSpellOptional b × WordsSpellOptional c × WordsSpellStmt s
   WordsSpellStmt (Goto n w) = IsIdentifier w
-  WordsSpellStmt (Continue n) = Unit {0}
-  WordsSpellStmt (Break n) = Unit {0}
   WordsSpellStmt (Return n e) = WordsSpellOptional e
+  WordsSpellStmt s = Unit {0}
 
   pub WordsSpellAlternative : Alternative → Type 0
   WordsSpellAlternative NoElse = Unit {0}

@@ -1,12 +1,10 @@
 -- What stands in a statement, as a list in the order of the text.
 use Rattle.std.specs.Prelude.{ℕ, List, [], ◌++◌}
-use Rattle.pw_types.specs.TypedTrees.{Initialiser, Statement, Empty, Evaluate, Block, If, While, Do, For, Switch, Label, Goto, Break, Continue, Return, Arms, NoArm, Arm, Otherwise, NoElse, Else, Statements, NoStatement, OneStatement}
+use Rattle.pw_types.specs.TypedTrees.{Initialiser, Statement, Block, If, While, Do, For, Switch, Label, Arms, NoArm, Arm, Otherwise, NoElse, Else, Statements, NoStatement, OneStatement}
 
 -- of each statement its own, before that of its parts; and of each block that of its initialisers
 abbrev mutual
   pub collected : {X : Type 0} → (Statement → List X → List X) → (List Initialiser → List X) → Statement → List X
-  collected own start (Empty t) = own (Empty t) []
-  collected own start (Evaluate t e) = own (Evaluate t e) []
   collected own start (Block t first count initialisers items) =
       own (Block t first count initialisers items) (start initialisers ++ collected_among own start items)
   collected own start (If t arms otherwise) =
@@ -16,10 +14,7 @@ abbrev mutual
   collected own start (For t a b c body) = own (For t a b c body) (collected own start body)
   collected own start (Switch t e cases default body) = own (Switch t e cases default body) (collected own start body)
   collected own start (Label t labels body) = own (Label t labels body) (collected own start body)
-  collected own start (Goto t n) = own (Goto t n) []
-  collected own start (Break t) = own (Break t) []
-  collected own start (Continue t) = own (Continue t) []
-  collected own start (Return t e) = own (Return t e) []
+  collected own start s = own s []
 
   pub collected_among : {X : Type 0} → (Statement → List X → List X) → (List Initialiser → List X) → Statements → List X
   collected_among own start NoStatement = []

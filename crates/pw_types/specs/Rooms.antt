@@ -3,7 +3,7 @@ use Rattle.std.specs.Prelude.{ℕ, ◌+◌, ◌*◌, Option, None, Some, unwrap_
 use Rattle.pw_value.specs.Rounding.{slot_room}
 use Rattle.pw_types.specs.TypeTrees.{RecordValue, type_of}
 use Rattle.pw_types.specs.TypedTrees.{Expression, Node, Form, Number, Str, Local, Global, Function, Unary, Binary, Logic, Cond, Comma, Assign, Compound, Step, Cast, Decay, Member, Deref, Address, Call, CallValue, Expressions, NoExpression, OneExpression, Initialiser, Value, Bytes, LocalValue, FunctionValue}
-use Rattle.pw_types.specs.TypedTrees.{Statement, Empty, Evaluate, Block, If, While, Do, For, Switch, Label, Goto, Break, Continue, Return, Arms, NoArm, Arm, Otherwise, NoElse, Else, Statements, NoStatement, OneStatement}
+use Rattle.pw_types.specs.TypedTrees.{Statement, Evaluate, Block, If, While, Do, For, Switch, Label, Return, Arms, NoArm, Arm, Otherwise, NoElse, Else, Statements, NoStatement, OneStatement}
 use Rattle.pw_types.specs.Layouts.{size_of}
 
 -- the nodes of an expression, itself included
@@ -50,7 +50,6 @@ initialiser_nodes (Bytes local hidden parts) = sum_by expr_nodes parts
 -- The nodes of a statement, itself included. An `if` has one for each arm, a labelled statement one for each label.
 abbrev mutual
   pub stmt_nodes : Statement → ℕ
-  stmt_nodes (Empty t) = 1
   stmt_nodes (Evaluate t e) = 1 + expr_nodes e
   stmt_nodes (Block t first count initialisers items) =
       1 + (sum_by initialiser_nodes initialisers + nodes_of_statements items)
@@ -60,10 +59,8 @@ abbrev mutual
   stmt_nodes (For t a b c body) = 1 + (optional_nodes a + optional_nodes b + optional_nodes c + stmt_nodes body)
   stmt_nodes (Switch t e cases default body) = 1 + (expr_nodes e + stmt_nodes body)
   stmt_nodes (Label t labels body) = length labels + stmt_nodes body
-  stmt_nodes (Goto t n) = 1
-  stmt_nodes (Break t) = 1
-  stmt_nodes (Continue t) = 1
   stmt_nodes (Return t e) = 1 + optional_nodes e
+  stmt_nodes s = 1
 
   pub arm_nodes : Arms → ℕ
   arm_nodes NoArm = 0

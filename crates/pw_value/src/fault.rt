@@ -9,9 +9,7 @@ use std::alloc::AllocError;
 /// field, in order, that is short or breaks its rule.
 #[derive(Clone, Copy, PartialEq, Eq, Debug)]
 pub enum FileError {
-    /// The bytes are no file of the wanted form: the field at this offset is short or breaks its rule.
     FileFault { at: usize },
-    /// Memory ran out.
     NoMemory,
 }
 
@@ -29,13 +27,9 @@ impl From<AllocError> for FileError {
 /// objects with static lifetime.
 #[derive(Clone, Copy, Debug)]
 pub enum What {
-    /// Modules.
     Modules,
-    /// Bytes of the modules' texts together.
     TextBytes,
-    /// Functions.
     Functions,
-    /// Objects with static lifetime.
     Globals,
 }
 
@@ -54,7 +48,6 @@ pub enum LinkFault {
     TextTooLarge(u64),
     /// The stack would end at this address.
     MemoryTooLarge(u64),
-    /// Memory ran out.
     NoMemory,
     /// There are so many of these.
     TooMany(What, u64),

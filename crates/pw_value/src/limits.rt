@@ -39,7 +39,7 @@ pub const FUNCTION_LIMIT: u64 = 4096;
 /// The greatest count of objects with static lifetime, those of strings and the hidden ones included.
 pub const GLOBAL_LIMIT: u64 = 8192;
 
-/// The least number of bytes that the stack may be given.
+/// The least size of the stack, in bytes.
 pub const STACK_LEAST: u32 = 4096;
 
 /// The greatest size of the stack, in bytes.

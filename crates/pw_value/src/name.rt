@@ -34,9 +34,7 @@ impl Model for Name {
 /// Why there is no name: the count of bytes is 0 or passes `NAME_LIMIT`, or there is no memory.
 #[derive(Clone, Copy, Debug)]
 pub enum NameError {
-    /// The count of bytes is 0 or passes `NAME_LIMIT`.
     Length,
-    /// Memory ran out.
     NoMemory,
 }
 

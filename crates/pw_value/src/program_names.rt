@@ -23,37 +23,35 @@ pub const GETCHAR: &[u8] = b"getchar";
 /// The library's function that writes a byte.
 pub const PUTCHAR: &[u8] = b"putchar";
 
-/// The name under which rules of linking tell the library, as if it were a module.
+/// The name of the library as a module.
 pub const LIBRARY: &[u8] = b"$lib";
 
 /// The library's functions, in byte order.
 pub const LIBRARY_FUNCTIONS: [&[u8]; 3] = [EXIT, GETCHAR, PUTCHAR];
 
-/// The shape of `$start`: a function that returns nothing and takes nothing.
+/// The shape of `$start`.
 pub const START_SHAPE: &[u8] = b"fv";
 
-/// The shape that `main` must have: it returns an int and takes nothing.
+/// The shape of `main`.
 pub const MAIN_SHAPE: &[u8] = b"fi";
 
-/// The shape of `exit`: it returns nothing and takes an int.
+/// The shape of `exit`.
 pub const EXIT_SHAPE: &[u8] = b"fvi";
 
-/// The shape of `getchar`: it returns an int and takes nothing.
+/// The shape of `getchar`.
 pub const GETCHAR_SHAPE: &[u8] = b"fi";
 
-/// The shape of `putchar`: it returns an int and takes an int.
+/// The shape of `putchar`.
 pub const PUTCHAR_SHAPE: &[u8] = b"fii";
 
 /// Whether `$start` may stand in a name's place.
 #[derive(Clone, Copy)]
 pub enum StartName {
-    /// It may stand there.
     Allowed,
-    /// It may not.
     Refused,
 }
 
-/// Whether a name may stand at a place where `$start` may stand, or may not: each other name may.
+/// Whether a name may stand where `$start` may, or may not.
 pub fn is_allowed(start: StartName, name: &Name) -> bool
     ensures { result ≡ may_stand start name.now }
 {

@@ -10,11 +10,8 @@ use std::alloc::AllocError;
 /// of a shift is not from 0 to 31.
 #[derive(Clone, Copy, Debug)]
 pub enum WordFault {
-    /// The exact result is no int.
     Overflow,
-    /// The divisor is zero.
     ZeroDivisor,
-    /// The count of the shift is not from 0 to 31.
     ShiftCount,
 }
 
@@ -51,7 +48,7 @@ pub fn next_word(count: u32) -> Result<u32, AllocError>
     count.checked_add(1).ok_or(AllocError)
 }
 
-/// The greatest value of an int, 2147483647.
+/// The greatest int.
 pub const INT_MAX: u32 = (1 << 31) - 1;
 
 /// What a read of a byte answers at the end of the input: the word of -1 (7.9.7.6).

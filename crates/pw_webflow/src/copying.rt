@@ -52,7 +52,7 @@ fn copy_store(alloc: Global, g: &Name, a: u32, k: Kind) -> Result<Op, AllocError
     Ok(Op::StoreG(g.copy(alloc)?, a, k))
 }
 
-/// A copy of an operation.
+/// The same operation again.
 pub fn copy_op(alloc: Global, op: &Op) -> Result<Op, AllocError>
     ensures { IfOk result (λ o. o ≡ op.now) }
 {
@@ -111,7 +111,7 @@ fn copy_web_blocks(alloc: Global, blocks: &[WebBlock]) -> Result<Items<WebBlock>
 }
 
 impl WebFn {
-    /// A copy of a function.
+    /// The same function again.
     pub fn copy(&self, alloc: Global) -> Result<WebFn, AllocError>
         ensures { IfOk result (λ f. f ≡ self.now) }
     {

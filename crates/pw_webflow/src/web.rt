@@ -8,7 +8,6 @@ use pw_value::{Name, Shape};
 /// An operation: one of a flow graph, or a copy from or to the register of a web.
 #[derive(Drop)]
 pub enum WebOp {
-    /// An operation of a flow graph.
     Flow(Op),
     /// The temporary becomes what the register holds.
     Read(u32, u8),

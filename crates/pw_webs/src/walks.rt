@@ -65,7 +65,7 @@ pub(crate) fn closure(
     Ok(found)
 }
 
-/// Puts the functions of a row into a set.
+/// Adds the functions of a row.
 pub(crate) fn add_row(found: &mut BitRow, row: &[u32])
     requires { All (λ b. b < found.old.len) row.now }
     ensures length { found.new.len ≡ found.old.len }

@@ -3,8 +3,8 @@ use Rattle.std.proofs.Common.{◌≡◌, ℕ, Bool, true, false, not, ◌&&◌, 
 use Rattle.pw_tree.specs.Scopes.{is_typedef_name, Env}
 use Rattle.pw_tree.specs.Spelling.{identifier, spell_expr, spell_postfixes, spell_operations, spell_stmt}
 use Rattle.pw_tree.specs.Symbols as symbol
-use Rattle.pw_tree.specs.Symbols.{Symbol, Reserved, Sign, unary_symbol, binary_mark, assign_mark}
-use Rattle.pw_tree.specs.Trees.{Expr, Identifier, Number, Floating, Character, Wide, Strings, Paren, Postfix, Unary, SizeofType, Cast, Chain, Conditional, Assign, Postfixes, NoPostfix, Index, Call, Select, Step, Operations, NoOperation, Operation, NameLabel, Stmt, Expression, Labeled, If}
+use Rattle.pw_tree.specs.Symbols.{Symbol, Reserved, Sign, unary_symbol, binary_mark, assign_mark, access_mark, step_mark}
+use Rattle.pw_tree.specs.Trees.{Expr, Identifier, Number, Floating, Character, Wide, Strings, Paren, Postfix, Unary, SizeofType, Cast, Chain, Conditional, Assign, Postfixes, NoPostfix, Index, Call, Select, Step, Operations, NoOperation, Operation, CaseLabel, DefaultLabel, NameLabel, Stmt, Compound, Expression, Empty, Labeled, If, Switch, While, Do, For, Goto, Continue, Break, Return, Braced}
 use Rattle.pw_tree.specs.WellFormed.{WellFormed, NotLabeled, NotIf, WellFormedStmt}
 use Rattle.pw_tree.specs.declared.operator.Access.TheVariants as access
 use Rattle.pw_tree.specs.declared.operator.AssignOperator.{AssignOperator}
@@ -26,8 +26,18 @@ use Rattle.pw_parse_grammar.proofs.Trees.Heads.{begins_expr, labels_name, expr-b
 
 -- the keywords that statements begin with
 abbrev begins_by : Keyword → Bool
+begins_by k.Case = true
+begins_by k.Default = true
+begins_by k.If = true
+begins_by k.Switch = true
+begins_by k.While = true
+begins_by k.Do = true
+begins_by k.For = true
+begins_by k.Goto = true
+begins_by k.Continue = true
+begins_by k.Break = true
+begins_by k.Return = true
 begins_by _ = false
-begins_by _ = true
 
 -- a token that a statement begins with
 abbrev pub begins_stmt : Env → Option Symbol → Bool
@@ -48,9 +58,22 @@ expr-as_stmt env None h = h
 
 pub stmt-begins : (env : Env) (s : Stmt) (z : List Symbol) → WellFormedStmt env s → begins_stmt env (head (spell_stmt s z)) ≡ true
 unfolding spell_stmt WellFormedStmt
+stmt-begins env (Compound (Braced t ds ss)) z h = refl
 stmt-begins env (Expression e) z h = expr-as_stmt env (head (spell_expr e (Sign m.Semicolon ∷ z))) (expr-begins env e (Sign m.Semicolon ∷ z) h)
+stmt-begins env (Empty t) z h = refl
 stmt-begins env (Labeled [] s) z h = absurd h.0
-stmt-begins env _ z h = refl
+stmt-begins env (Labeled (CaseLabel t e ∷ ls) s) z h = refl
+stmt-begins env (Labeled (DefaultLabel t ∷ ls) s) z h = refl
+stmt-begins env (Labeled (NameLabel w ∷ ls) s) z h = refl
+stmt-begins env (If t c s a) z h = refl
+stmt-begins env (Switch t e s) z h = refl
+stmt-begins env (While t e s) z h = refl
+stmt-begins env (Do t s e) z h = refl
+stmt-begins env (For t a b c s) z h = refl
+stmt-begins env (Goto t w) z h = refl
+stmt-begins env (Continue t) z h = refl
+stmt-begins env (Break t) z h = refl
+stmt-begins env (Return t e) z h = refl
 
 and-false : (b : Bool) → (b && false) ≡ false
 and-false true = refl
@@ -63,11 +86,23 @@ not-not true h = true_is_not_false h
 -- what a statement begins with is no declaration: a typedef name with a `:` behind it is a label
 pub stmt-no_declaration : (env : Env) (s : Stmt) (z : List Symbol) (i : ℕ) → WellFormedStmt env s → begins_declaration true (at env (spell_stmt s z) i) ≡ false
 unfolding begins_declaration opens_label begins_specifier sees ahead step same_mark spell_stmt WellFormedStmt
+stmt-no_declaration env (Compound (Braced t ds ss)) z i h = refl
 stmt-no_declaration env (Expression e) z i h =
     rw (expr-no_type true env (spell_expr e (Sign m.Semicolon ∷ z)) i (head (spell_expr e (Sign m.Semicolon ∷ z))) (expr-begins env e (Sign m.Semicolon ∷ z) h)) refl
+stmt-no_declaration env (Empty t) z i h = refl
 stmt-no_declaration env (Labeled [] s) z i h = absurd h.0
+stmt-no_declaration env (Labeled (CaseLabel t e ∷ ls) s) z i h = refl
+stmt-no_declaration env (Labeled (DefaultLabel t ∷ ls) s) z i h = refl
 stmt-no_declaration env (Labeled (NameLabel w ∷ ls) s) z i h = and-false (symbol_begins_specifier true (at env (spell_stmt (Labeled (NameLabel w ∷ ls) s) z) i) (Some (identifier w)))
-stmt-no_declaration env _ z i h = refl
+stmt-no_declaration env (If t c s a) z i h = refl
+stmt-no_declaration env (Switch t e s) z i h = refl
+stmt-no_declaration env (While t e s) z i h = refl
+stmt-no_declaration env (Do t s e) z i h = refl
+stmt-no_declaration env (For t a b c s) z i h = refl
+stmt-no_declaration env (Goto t w) z i h = refl
+stmt-no_declaration env (Continue t) z i h = refl
+stmt-no_declaration env (Break t) z i h = refl
+stmt-no_declaration env (Return t e) z i h = refl
 
 -- and it is no `else` and no `}`
 pub stmt-no_else : (env : Env) (o : Option Symbol) → begins_stmt env o ≡ true → is_keyword k.Else o ≡ false
@@ -90,10 +125,22 @@ expr-no_if env None h = refl
 
 pub stmt-no_if : (env : Env) (s : Stmt) (z : List Symbol) → NotIf s → WellFormedStmt env s → is_keyword k.If (head (spell_stmt s z)) ≡ false
 unfolding spell_stmt WellFormedStmt same_keyword
+stmt-no_if env (Compound (Braced t ds ss)) z n h = refl
 stmt-no_if env (Expression e) z n h = expr-no_if env (head (spell_expr e (Sign m.Semicolon ∷ z))) (expr-begins env e (Sign m.Semicolon ∷ z) h)
+stmt-no_if env (Empty t) z n h = refl
 stmt-no_if env (Labeled [] s) z n h = absurd h.0
+stmt-no_if env (Labeled (CaseLabel t e ∷ ls) s) z n h = refl
+stmt-no_if env (Labeled (DefaultLabel t ∷ ls) s) z n h = refl
+stmt-no_if env (Labeled (NameLabel w ∷ ls) s) z n h = refl
 stmt-no_if env (If t c s a) z n h = absurd n
-stmt-no_if env _ z n h = refl
+stmt-no_if env (Switch t e s) z n h = refl
+stmt-no_if env (While t e s) z n h = refl
+stmt-no_if env (Do t s e) z n h = refl
+stmt-no_if env (For t a b c s) z n h = refl
+stmt-no_if env (Goto t w) z n h = refl
+stmt-no_if env (Continue t) z n h = refl
+stmt-no_if env (Break t) z n h = refl
+stmt-no_if env (Return t e) z n h = refl
 
 -- ---- no label stands where an expression does
 
@@ -188,13 +235,33 @@ module _ (limit : ℕ) where
 
   pub no-label : (env : Env) (s : Stmt) (z : List Symbol) (i : ℕ) → NotLabeled s → WellFormedStmt env s → label limit (at env (spell_stmt s z) i) ≡ Ok (None, at env (spell_stmt s z) i)
   unfolding label sees ahead step spell_stmt WellFormedStmt same_mark
+  no-label env (Compound (Braced t ds ss)) z i n h = refl
   no-label env (Expression e) z i n h = label-none env (spell_expr e (Sign m.Semicolon ∷ z)) i (expr-begins env e (Sign m.Semicolon ∷ z) h) (expr-no_label env e (Sign m.Semicolon ∷ z) h refl)
+  no-label env (Empty t) z i n h = refl
   no-label env (Labeled ls s) z i n h = absurd n
-  no-label env _ z i n h = refl
+  no-label env (If t c s a) z i n h = refl
+  no-label env (Switch t e s) z i n h = refl
+  no-label env (While t e s) z i n h = refl
+  no-label env (Do t s e) z i n h = refl
+  no-label env (For t a b c s) z i n h = refl
+  no-label env (Goto t w) z i n h = refl
+  no-label env (Continue t) z i n h = refl
+  no-label env (Break t) z i n h = refl
+  no-label env (Return t e) z i n h = refl
 
   -- an expression begins an expression statement
   pub begins-expression : (env env' : Env) (p : Parser Stmt) (tokens : List Symbol) (i : ℕ) → begins_expr env' (head tokens) ≡ true → unlabeled limit p (at env tokens i) ≡ expression_stmt limit (at env tokens i)
   unfolding unlabeled compound ahead
   begins-expression env env' p [] i h = true_is_not_false h
+  begins-expression env env' p (Sign m.OpenBrace ∷ z) i h = true_is_not_false h
+  begins-expression env env' p (Sign m.Semicolon ∷ z) i h = true_is_not_false h
+  begins-expression env env' p (Reserved k.Goto ∷ z) i h = true_is_not_false h
+  begins-expression env env' p (Reserved k.Continue ∷ z) i h = true_is_not_false h
+  begins-expression env env' p (Reserved k.Break ∷ z) i h = true_is_not_false h
+  begins-expression env env' p (Reserved k.Return ∷ z) i h = true_is_not_false h
+  begins-expression env env' p (Reserved k.If ∷ z) i h = true_is_not_false h
+  begins-expression env env' p (Reserved k.Switch ∷ z) i h = true_is_not_false h
+  begins-expression env env' p (Reserved k.While ∷ z) i h = true_is_not_false h
+  begins-expression env env' p (Reserved k.Do ∷ z) i h = true_is_not_false h
+  begins-expression env env' p (Reserved k.For ∷ z) i h = true_is_not_false h
   begins-expression env env' p (_ ∷ z) i h = refl
-  begins-expression env env' p _ i h = true_is_not_false h

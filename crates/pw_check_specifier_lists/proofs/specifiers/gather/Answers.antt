@@ -13,8 +13,8 @@ use Rattle.pw_check_specifier_lists.proofs.specifiers.gather.Goals as goal
 
 pub loop-next-init : goal.loop-next-init
 loop-next-init g c = (
-  ap (λ (x : Gathered). outcome (specifiers_rule (view_specifiers c.args.specifiers.now) c.args.first x (view_state c.args.state.now))) (sym c.nothing_gathered.ensures),
-  (omega (arith, ap (λ (x : Gathered). x.constants) c.nothing_gathered.ensures), omega (arith, ap (λ (x : Gathered). x.volatiles) c.nothing_gathered.ensures)),
+  ap (λ (x : Gathered). outcome (specifiers_rule (view_specifiers c.args.specifiers.now) c.args.first x (view_state c.args.state.now))) (sym c.nothing_gathered-gathered.ensures),
+  (omega (arith, ap (λ (x : Gathered). x.constants) c.nothing_gathered-gathered.ensures), omega (arith, ap (λ (x : Gathered). x.volatiles) c.nothing_gathered-gathered.ensures)),
 )
 
 pub loop-next-preserved : goal.loop-next-preserved

@@ -32,8 +32,8 @@ pub loop-last-init : goal.loop-last-init
 loop-last-init c = (
   c.requires,
   omega arith,
-  leads-start c.args.source.now c.args.text.now c.args.mode c.args.pending.now c.args.progress.now c.new-whole.result c.new-last.result.items c.new-whole.ensures c.new-last.ensures,
-  λ known some h. let empty = start-known known c.new-whole.result c.new-last.result.items c.new-whole.ensures c.new-last.ensures in (h, empty.0, empty.1),
+  leads-start c.args.source.now c.args.text.now c.args.mode c.args.pending.now c.args.progress.now c.new-whole.result c.new-last.result.items c.new-whole.ensures c.new-last.ensures.items,
+  λ known some h. let empty = start-known known c.new-whole.result c.new-last.result.items c.new-whole.ensures c.new-last.ensures.items in (h, empty.0, empty.1),
 )
 
 pub returns-in_err-look_ahead-clause-answers : goal.returns-in_err-look_ahead-clause-answers

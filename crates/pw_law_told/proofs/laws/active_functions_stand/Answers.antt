@@ -6,6 +6,7 @@ use Rattle.pw_machine.specs.Core.{Core}
 use Rattle.pw_machine.specs.Start.{image_start}
 use Rattle.pw_link.specs.Linking.{linked}
 use Rattle.pw_run_languages.specs.Calls.{FollowsCalls}
+use Rattle.pw_run_languages.specs.FlowRun.{flow_run}
 use Rattle.pw_run_languages.specs.LawfulPrograms.{graph_of}
 use Rattle.pw_run_languages.specs.LineRun.{LineFn}
 use Rattle.pw_run_languages.specs.LinkingLaws.{frame_in, map_of}
@@ -24,6 +25,8 @@ use Rattle.pw_law_linked.specs.Given.{IsGiven}
 use Rattle.pw_law_linked.specs.Settings.{linked_setting}
 use Rattle.pw_law_linked.proofs.Linked.{all_of}
 use Rattle.pw_law_room.specs.Room.{HadRoom}
+use Rattle.pw_law_source.specs.Lowering.{MomentKept}
+use Rattle.pw_law_layers.proofs.Roomless.{stages_kept}
 use Rattle.pw_law_told.proofs.Far.{lines_pass, source_far}
 use Rattle.pw_law_told.proofs.Follows.{calls_follow, calls_have_room}
 use Rattle.pw_law_told.proofs.Rooms.{frames_are}
@@ -43,7 +46,8 @@ returns c = λ p q d functions objects input k step s object kind built located 
     let first = c.images_start_as_lines.ensures x image.memory place.first input refl place.named place.entry place.base place.small place.memory in
     let layers = kept_layers c.places_fit_their_rooms.ensures c.maps_have_frames.ensures c.placement_keeps_runs.ensures c.sound_directives_guard.ensures c.selection_keeps_runs.ensures c.linking_keeps_runs.ensures p q d functions objects input built bytes direction places in
     let both = between c.places_fit_their_rooms.ensures c.maps_have_frames.ensures c.placement_keeps_runs.ensures c.sound_directives_guard.ensures c.selection_keeps_runs.ensures p q d functions objects input built bytes x.addresses met.0 place.addresses in
-    let pass = lines_pass p q d functions x.addresses met.0 (frame_in image) q.stack input step layers.lowering direction places both.selection both.placement (source_far p (frame_in image) q.stack input (suc step) (defined (suc step))) in
+    let low = stages_kept (MomentKept q) p (frame_in image) q.stack input (flow_run q input) layers.lowering in
+    let pass = lines_pass p q d functions x.addresses met.0 (frame_in image) q.stack input step low direction places both.selection both.placement (source_far p (frame_in image) q.stack input (suc step) (defined (suc step))) in
     let maps = maps_same q functions objects input in
     let entries = c.linked_programs_have_their_entries.ensures q d functions objects program built.names built.serve built.made built.fits in
     let e = c.calls_are_entered.ensures x framed met.0 input (entries_in image objects) k step pass.at s links (subst (λ (m : Map). AreEntriesOf (entries_in image objects) m) (sym maps) entries) (met.1 input place.first first) reached pass.passed in

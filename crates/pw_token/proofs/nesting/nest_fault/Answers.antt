@@ -19,7 +19,7 @@ returns-then-nest-gt-NEST_LIMIT c =
     let deep : nat_lt nest_limit c.step-nest.result ≡ true = grind (arith, nat_tests) in
     sym (sym c.loop-index.invariant.0
     ∙ found-here c.args.text.now c.args.tokens.now c.loop-index.index (record { before = c.loop-index.before; operand = c.loop-index.operand; levels = levels_of c.loop-index.levels })
-    c.role_at-role.result c.role_at-next.result c.step-nest.result c.loop-index-test.true c.role_at-role.ensures c.role_at-next.ensures c.step-nest.ensures.nest deep)
+    c.loop-index.role c.role_at-next.result c.step-nest.result c.loop-index-test.true c.loop-index.invariant.3 c.role_at-next.ensures c.step-nest.ensures.nest deep)
 
 pub loop-index-preserved : goal.loop-index-preserved
 loop-index-preserved c =
@@ -27,10 +27,11 @@ loop-index-preserved c =
     let text = c.args.text.now in
     let tokens = c.args.tokens.now in
     let s : State = record { before = c.loop-index.before; operand = c.loop-index.operand; levels = levels_of c.loop-index.levels } in
-    let step = go-on text tokens c.loop-index.index s c.role_at-role.result c.role_at-next.result c.step-nest.result c.loop-index-test.true
-    c.role_at-role.ensures c.role_at-next.ensures c.step-nest.ensures.nest shallow in (
-      stepped (c.loop-index.index + 1 + 1) c.role_at-role.result c.role_at-next.result s c.operand_after-operand.result (levels_of c.step-nest.new.levels)
+    let step = go-on text tokens c.loop-index.index s c.loop-index.role c.role_at-next.result c.step-nest.result c.loop-index-test.true
+    c.loop-index.invariant.3 c.role_at-next.ensures c.step-nest.ensures.nest shallow in (
+      stepped (c.loop-index.index + 1 + 1) c.loop-index.role c.role_at-next.result s c.operand_after-operand.result (levels_of c.step-nest.new.levels)
           (map (role_in text) (drop (c.loop-index.index + 1) tokens)) _ c.operand_after-operand.ensures c.step-nest.ensures.levels (sym c.loop-index.invariant.0 ∙ step),
       c.step-nest.ensures.sound,
       c.step-nest.ensures.low (omega arith),
+      c.role_at-next.ensures,
     )

@@ -28,3 +28,6 @@ pub loop-more-preserved : goal.loop-more-preserved
 loop-more-preserved c =
     step-on c.args.ground.source.now c.args.ground.text.now c.args.ground.macros.now c.args.ground.mode {A = Bool} c.args.sets.now c.loop-more.sets c.turn.new.sets c.loop-more.invariant.0 (λ outcome. ComesTo c.args.ground.source.now c.args.ground.text.now c.args.ground.macros.now c.args.ground.mode c.loop-more.sets c.loop-more.self c.loop-more.progress outcome)
     (λ outcome. ComesTo c.args.ground.source.now c.args.ground.text.now c.args.ground.macros.now c.args.ground.mode c.args.sets.now c.args.self.now c.args.progress.now outcome) c.loop-more.invariant.2 c.turn.new.self c.turn.new.progress (Ok c.in_ok-more.more) c.in_ok-more.ensures.comes
+
+pub loop-more-smaller : goal.loop-more-smaller
+loop-more-smaller c = c.in_ok-more.ensures.left c.if-not-more.false
