@@ -1,3 +1,3 @@
-//! States for the law of selection, in definitions: when a state of the placed run stands in words, and what the lines of an
+//! Laws of states for the law of selection, without code: when a state of the placed run stands in words, and what the lines of an
 //! operation do and leave.
 #![tactic(auto)]
