@@ -289,4 +289,4 @@ pub says_hi : Runs → OneProgram → OneImage → Compiling → HasTree hello_t
     → (opts : RunOpts) → command_of words ≡ Some (Go opts)
     → IfSome old (λ told. HoldsHello told.files → KeepsGenuine told.files → IfSome input (λ rest. AreBytes rest → SaysHi answer taken taken'))
 says_hi runs one images exact tree checks lawful words old new input input' taken taken' answer left does opts e =
-    says_told runs one images exact tree checks (command_of words) opts e (lawful words (Go opts) e).1.0 old new input input' taken taken' answer left does
+    says_told runs one images exact tree checks (command_of words) opts e (lawful words (Go opts) e).least old new input input' taken taken' answer left does
